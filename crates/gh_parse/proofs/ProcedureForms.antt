@@ -11,10 +11,10 @@ use Rattle.gh_ast.specs.Readings.{IsUnique}
 use Rattle.gh_ast.proofs.OneStatement.{no_var_first}
 use Rattle.gh_ast.proofs.OneProgram.{one_locals, one_inside, one_params, one_header, one_results, one_body, one_procedure_at}
 use Rattle.gh_ast.proofs.ShorterStatement.{shorter_locals}
-use Rattle.gh_parse.specs.Stops.{Tok, tok, Any, any, Seq, seq, Opt, without, with, Tail, ended, further, EndsHere, Stops}
+use Rattle.gh_parse.specs.Stops.{Tok, tok, Any, any, Seq, seq, Opt, without, with, Tail, ended, further, EndsHere}
 use Rattle.gh_parse.specs.Statements.{SpellsRun}
-use Rattle.gh_parse.specs.Procedures.{AddsLocals, Ended, SpellsEnded}
-use Rattle.gh_parse.proofs.Rules.{Exact, exact_tok, exact_seq, exact_with, exact_without, exact_ended, exact_further, kept, kept_rest, each, apart, apart_seq, by, form, told, next, after, Ends, ends_tok, ends_seq, ends_opt, ends_tail, ends_by}
+use Rattle.gh_parse.specs.Procedures.{AddsLocals, Head, SpellsHeading, Ended, SpellsEnded}
+use Rattle.gh_parse.proofs.Rules.{Exact, exact_tok, exact_seq, exact_with, exact_without, exact_ended, exact_further, exact_by, kept, kept_rest, each, apart, apart_seq, by, form, told, next, after, Ends, ends_tok, ends_seq, ends_opt, ends_tail, ends_by}
 use Rattle.gh_parse.proofs.Turns.{Goes}
 use Rattle.gh_parse.proofs.AssertionForms.{exact_clause, ends_clause, exact_ensures, ends_ensures}
 use Rattle.gh_parse.proofs.StatementForms.{ARun, a_run, exact_run, ends_run}
@@ -252,29 +252,59 @@ ended_none {rest = rest} {p = p} e = subst (λ z. SpellsBody z None p rest) (sym
 pub ended_some : {ts us rest : List Token} {p c : Span} {b : Inside} → ts ≡ sign sg.BraceOpen p ∷ us → SpellsInside us b rest → b.close ≡ c → SpellsEnded ts (record { body = Some b; close = c }) rest
 ended_some {ts = ts} {rest = rest} {b = b} e s d = subst (λ z. SpellsBody ts (Some b) z rest) d (subst (λ z. SpellsBody z (Some b) b.close rest) (sym e) (a_body s))
 
--- procedures: a header after the name, and what comes after the header
-pub record IsHeaded (ts : List Token) (f : Occ) (us : List Token) : Type 0 where
-  pub word : Span
-  pub bracket : Span
-  pub front : ts ≡ key kw.Procedure word ∷ named f ∷ sign sg.ParenOpen bracket ∷ us
+-- procedures: what stands before the contracts, and what comes after it
+abbrev pub AHeading : List Token → List Token → Type 0
+AHeading = Any SpellsHeading
 
-pub headed : {ts us vs ws : List Token} {f : Occ} {p q : Span} → ts ≡ key kw.Procedure p ∷ us → us ≡ named f ∷ vs → vs ≡ sign sg.ParenOpen q ∷ ws → IsHeaded ts f ws
-headed {p = p} {q = q} a b c = record { word = p; bracket = q; front = cc }
+abbrev pub AfterBracket : List Token → List Token → Type 0
+AfterBracket = Seq (Any SpellsHeader) (Any SpellsResults)
+
+abbrev pub Heading : List Token → List Token → Type 0
+Heading = Seq (Tok (key kw.Procedure)) (Seq (Tok named) (Seq (Tok (sign sg.ParenOpen)) AfterBracket))
+
+pub heading_spelled : {ts us vs ws zs rest : List Token} {f : Occ} {p q : Span} {xs ys : List Occ} → ts ≡ key kw.Procedure p ∷ us → us ≡ named f ∷ vs → vs ≡ sign sg.ParenOpen q ∷ ws
+    → SpellsHeader ws xs zs → SpellsResults zs ys rest → SpellsHeading ts (record { name = f; parameters = xs; results = ys }) rest
+heading_spelled {ws = ws} {zs = zs} {p = p} {q = q} a b c h r = record { word = p; bracket = q; inside = ws; after_parameters = zs; front = cc; parameters = h; results = r }
+
+pub make_heading : (xs r : List Token) → Heading xs r → AHeading xs r
+make_heading _ _ (seq tok (seq (tok {p = f}) (seq tok (seq (any {x = xs} h) (any {x = ys} r))))) = any {x = record { name = f; parameters = xs; results = ys }} (heading_spelled refl refl refl h r)
+
+heading_at : {ts us vs rest : List Token} {f : Occ} {p q : Span} {xs ys : List Occ} → ts ≡ key kw.Procedure p ∷ named f ∷ sign sg.ParenOpen q ∷ us → SpellsHeader us xs vs → SpellsResults vs ys rest
+    → Heading ts rest
+heading_at e h r = rw e (seq tok (seq tok (seq tok (seq (any h) (any r)))))
+
+pub part_heading : (xs r : List Token) → AHeading xs r → Heading xs r
+part_heading _ _ (any s) = heading_at s.front s.parameters s.results
+
+exact_parts : {ts us vs : List Token} {f : Occ} {p q : Span} {xs ys : List Occ} → SpellsHeader ts xs us → SpellsResults us ys vs
+    → Exact AHeading (key kw.Procedure p ∷ named f ∷ sign sg.ParenOpen q ∷ ts) vs
+exact_parts h r =
+    exact_by make_heading (λ v. part_heading _ v) (exact_seq (exact_tok tok) (exact_seq (exact_tok tok) (exact_seq (exact_tok tok) (exact_seq (exact_header _ _ _ h) (exact_results _ _ _ r)))))
+
+pub exact_heading : (ts us : List Token) → AHeading ts us → Exact AHeading ts us
+exact_heading ts us (any s) = subst (λ z. Exact AHeading z us) (sym s.front) (exact_parts s.parameters s.results)
+
+pub ends_after_bracket : Ends EndsHere AfterBracket
+ends_after_bracket = ends_seq ends_header ends_results
 
 abbrev pub AfterResults : List Token → List Token → Type 0
 AfterResults = Seq (Any (SpellsClause kw.Requires)) (Seq (Any SpellsEnsures) AnEnd)
 
-abbrev pub AfterBracket : List Token → List Token → Type 0
-AfterBracket = Seq (Any SpellsHeader) (Seq (Any SpellsResults) AfterResults)
-
 abbrev pub AProcedure : List Token → List Token → Type 0
-AProcedure = Seq (Tok (key kw.Procedure)) (Seq (Tok named) (Seq (Tok (sign sg.ParenOpen)) AfterBracket))
+AProcedure = Seq AHeading AfterResults
+
+pub procedure_spelled : {ts us ws zs rest : List Token} {h : Head} {k : Formula} {l : List Formula} {e : Ended} → SpellsHeading ts h us → SpellsClause kw.Requires us k ws → SpellsEnsures ws l zs
+    → SpellsEnded zs e rest
+    → SpellsProcedure ts (record { name = h.name; parameters = h.parameters; results = h.results; needs = k; gives = l; body = e.body; close = e.close }) rest
+procedure_spelled {rest = rest} {h = h} {k = k} {l = l} {e = e} s c d b =
+    let x : Procedure = record { name = h.name; parameters = h.parameters; results = h.results; needs = k; gives = l; body = e.body; close = e.close } in
+    subst (λ z. SpellsProcedure z x rest) (sym s.front) (a_procedure s.parameters s.results c d b)
 
 pub make_procedure : (xs r : List Token) → AProcedure xs r → Any SpellsProcedure xs r
-make_procedure _ _ (seq tok (seq tok (seq tok (seq (any h) (seq (any r) (seq (any f) (seq (any g) (any b)))))))) = any (a_procedure h r f g b)
+make_procedure _ _ (seq (any s) (seq (any f) (seq (any g) (any b)))) = any (procedure_spelled s f g b)
 
 pub part_procedure : (xs r : List Token) → Any SpellsProcedure xs r → AProcedure xs r
-part_procedure _ _ (any (a_procedure h r f g b)) = seq tok (seq tok (seq tok (seq (any h) (seq (any r) (seq (any f) (seq (any g) (an_end b)))))))
+part_procedure _ _ (any (a_procedure h r f g b)) = seq (make_heading _ _ (seq tok (seq tok (seq tok (seq (any h) (any r)))))) (seq (any f) (seq (any g) (an_end b)))
 
 unique_procedure : (ts : List Token) → IsUnique (SpellsProcedure ts)
 unique_procedure ts x y r q a b = one_procedure_at ts r q x y a b
@@ -282,26 +312,7 @@ unique_procedure ts x y r q a b = one_procedure_at ts r q x y a b
 pub exact_procedure : (ts : List Token) (x : Procedure) (us : List Token) → SpellsProcedure ts x us → Exact (Any SpellsProcedure) ts us
 exact_procedure _ _ _ (a_procedure h r f g b) =
     kept _ (unique_procedure _) (a_procedure h r f g b) make_procedure
-    (exact_seq (exact_tok tok)
-    (exact_seq (exact_tok tok)
-    (exact_seq (exact_tok tok)
-    (exact_seq (exact_header _ _ _ h)
-    (exact_seq (exact_results _ _ _ r) (exact_seq (exact_clause (λ p. refl) _ _ (any f)) (exact_seq (exact_ensures _ _ (any g)) (exact_body b))))))))
+    (exact_seq (exact_parts h r) (exact_seq (exact_clause (λ p. refl) _ _ (any f)) (exact_seq (exact_ensures _ _ (any g)) (exact_body b))))
 
 pub ends_after_results : Ends EndsHere AfterResults
 ends_after_results = ends_seq (ends_clause (λ p. refl)) (ends_seq ends_ensures ends_end)
-
-pub ends_after_bracket : Ends EndsHere AfterBracket
-ends_after_bracket = ends_seq ends_header (ends_seq ends_results ends_after_results)
-
--- in what comes after the bracket
-pub in_header : {F : List Token → Type 0} {ts us vs ws left : List Token} {f : Occ} {p q : Span} → ts ≡ key kw.Procedure p ∷ us → us ≡ named f ∷ vs → vs ≡ sign sg.ParenOpen q ∷ ws
-    → Stops F AfterBracket ws left → Stops F (Any SpellsProcedure) ts left
-in_header a b c s = form make_procedure part_procedure (after _ a (after _ b (after _ c s)))
-
-pub procedure_spelled : {ts us vs ws zs ends rest : List Token} {f : Occ} {xs ys : List Occ} {k : Formula} {l : List Formula} {e : Ended} → IsHeaded ts f us → SpellsHeader us xs vs → SpellsResults vs ys ws
-    → SpellsClause kw.Requires ws k zs → SpellsEnsures zs l ends → SpellsEnded ends e rest
-    → SpellsProcedure ts (record { name = f; parameters = xs; results = ys; needs = k; gives = l; body = e.body; close = e.close }) rest
-procedure_spelled {rest = rest} {f = f} {xs = xs} {ys = ys} {k = k} {l = l} {e = e} h s r c d b =
-    let x : Procedure = record { name = f; parameters = xs; results = ys; needs = k; gives = l; body = e.body; close = e.close } in
-    subst (λ z. SpellsProcedure z x rest) (sym h.front) (a_procedure s r c d b)

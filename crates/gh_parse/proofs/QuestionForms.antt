@@ -1,7 +1,9 @@
 -- How questions are made, and where reading them stops.
-use Rattle.std.proofs.Common.{◌≡◌, ◌∙◌, List, [], ◌∷◌, ◌++◌, append_assoc, append-nil, refl, sym, ap, subst}
+use Rattle.std.proofs.Common.{◌≡◌, ◌∙◌, List, [], ◌∷◌, ◌++◌, append_assoc, append-nil, Result, Ok, Err, refl, sym, ap, subst}
+use Rattle.std.specs.Result.{result_and}
 use Rattle.gh_base.specs.declared.place.Span.{Span}
 use Rattle.gh_ast.specs.declared.Occ.{Occ}
+use Rattle.gh_ast.specs.declared.question.Claim as read
 use Rattle.gh_ast.specs.declared.sign.Sign.TheVariants as sg
 use Rattle.gh_ast.specs.declared.sign.Keyword.TheVariants as kw
 use Rattle.gh_ast.specs.Tokens.{Token, named, key, sign, first_place}
@@ -10,8 +12,10 @@ use Rattle.gh_ast.specs.Grammar.{NoKey, SpellsLocals, last_local, next_local}
 use Rattle.gh_ast.specs.QuestionGrammar.{SpellsClaim, SpellsVariables, no_variables, some_variables, SpellsQuestion, a_question}
 use Rattle.gh_ast.proofs.OneQuestion.{one_claim, one_variables}
 use Rattle.gh_parse.specs.Stops.{Tok, tok, Any, any, Seq, seq, EndsHere, IsAny, IsEnd, IsAlike, SameNext, same, none, Stops}
+use Rattle.gh_parse.specs.declared.error.ReadError.{ReadError}
+use Rattle.gh_parse.specs.Answers.{IsMissing, TakesKind}
 use Rattle.gh_parse.specs.Procedures.{AddsLocals, SpellsToEnd}
-use Rattle.gh_parse.specs.Questions.{IsApart, SpellsWhole}
+use Rattle.gh_parse.specs.Questions.{IsApart, SpellsWhole, Pair, SpellsClaims}
 use Rattle.gh_parse.proofs.Rules.{Breaks, after_any, alike_same, begins_not, form, by, through, first_any, next, after, each, Sentences, plain_first, plain_end}
 use Rattle.gh_parse.proofs.ValueForms.{a_name}
 use Rattle.gh_parse.proofs.ProcedureForms.{make_adds}
@@ -72,6 +76,30 @@ Claims = Seq (Any SpellsClaim) Right
 
 a_right : (rest : List Token) → IsEnd rest → (us : List Token) × IsApart us × Right us rest
 a_right rest h = let a = a_last rest h in (key kw.Ensures first_place ∷ a.0, apart_key first_place a.0, seq tok a.2)
+
+pub claims_spelled : {ts us vs rest : List Token} {p : Span} {c d : Claim} → SpellsClaim ts c us → us ≡ key kw.Ensures p ∷ vs → SpellsWhole SpellsClaim vs d rest
+    → SpellsClaims ts (record { left = c; right = d }) rest
+claims_spelled {us = us} {vs = vs} {p = p} a e b = record { word = p; before_word = us; after_word = vs; left = a; middle = e; right = b }
+
+-- the word is taken after a claim, or missing
+pub word_taken : (ts left : List Token) (answer : Result Span ReadError) (x y : read.Claim) → Ok y ≡ result_and answer (Ok x) → TakesKind (key kw.Ensures) ts answer left
+    → (y ≡ x) × (p : Span) × (ts ≡ key kw.Ensures p ∷ left)
+word_taken ts left (Ok p) x y e h = (cc, p, h)
+word_taken ts left (Err r) x y e h = absurd (cc)
+
+pub word_missing : (ts left : List Token) (answer : Result Span ReadError) (x : read.Claim) (r : ReadError) → Err r ≡ result_and answer (Ok x) → TakesKind (key kw.Ensures) ts answer left
+    → IsMissing (key kw.Ensures) ts left r
+word_missing ts left (Ok p) x r e h = absurd (cc)
+word_missing ts left (Err s) x r e h = let f : s ≡ r = cc in subst (λ z. IsMissing (key kw.Ensures) ts left z) f h
+
+pub make_claims : (xs r : List Token) → Claims xs r → Any SpellsClaims xs r
+make_claims _ _ (seq (any {x = c} a) (seq tok (any {x = d} b))) = any {x = record { left = c; right = d }} (claims_spelled a refl b)
+
+claims_at : {c : Claim} {p : Span} {ts us vs rest : List Token} {d : Claim} → SpellsClaim ts c us → us ≡ key kw.Ensures p ∷ vs → SpellsWhole SpellsClaim vs d rest → Claims ts rest
+claims_at {c = c} {p = p} {ts = ts} {d = d} a e b = seq (any {x = c} (subst (λ z. SpellsClaim ts c z) e a)) (seq (tok {p = p}) (any {x = d} b))
+
+pub part_claims : (xs r : List Token) → Any SpellsClaims xs r → Claims xs r
+part_claims _ _ (any s) = claims_at s.left s.middle s.right
 
 pub stops_left : {ts left : List Token} → Stops IsApart (Any SpellsClaim) ts left → Stops IsEnd Claims ts left
 stops_left s = first_apart a_right s
@@ -159,11 +187,12 @@ past_word {p = p} {ts = ts} {us = us} {left = left} {xs = xs} v e s =
     subst (λ z. Stops IsEnd AQuestion z left) (sym (f.split ∙ sym (joined us)))
     (through (f.taken ++ word ∷ []) (λ zs r h. make_question (at zs) h) (λ zs r d h. part_question (at zs) h) s)
 
-pub question_spelled : {ts us vs ws zs rest : List Token} {p q : Span} {xs : List Occ} {c d : Claim} → SpellsVariables ts xs us → us ≡ key kw.Requires p ∷ vs → SpellsClaim vs c ws → ws ≡ key kw.Ensures q ∷ zs
-    → SpellsWhole SpellsClaim zs d rest → SpellsToEnd SpellsQuestion ts (record { variables = xs; span = p; left = c; right = d }) rest
-question_spelled {ts = ts} {vs = vs} {zs = zs} {xs = xs} {c = c} {d = d} v e a f l =
+pub question_spelled : {ts us vs rest : List Token} {p : Span} {xs : List Occ} {c : Pair} → SpellsVariables ts xs us → us ≡ key kw.Requires p ∷ vs → SpellsClaims vs c rest
+    → SpellsToEnd SpellsQuestion ts (record { variables = xs; span = p; left = c.left; right = c.right }) rest
+question_spelled {ts = ts} {vs = vs} {xs = xs} {c = c} v e s =
+    let l = s.right in
     record {
-      spelled = a_question (subst (λ z. SpellsVariables ts xs z) e v) (subst (λ z. SpellsClaim vs c z) f a) (subst (λ z. SpellsClaim zs d z) l.end l.spelled);
+      spelled = a_question (subst (λ z. SpellsVariables ts xs z) e v) (subst (λ z. SpellsClaim vs c.left z) s.middle s.left) (subst (λ z. SpellsClaim s.after_word c.right z) l.end l.spelled);
       end = l.end;
     }
 

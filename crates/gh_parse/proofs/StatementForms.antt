@@ -16,7 +16,7 @@ use Rattle.gh_ast.proofs.Shorter.{shorter_test, shorter_clause}
 use Rattle.gh_ast.proofs.ShorterStatement.{shorter_block, shorter_statement}
 use Rattle.gh_parse.specs.Stops.{Tok, tok, Any, any, Seq, seq, Opt, without, with, Then, and_then, EndsHere, Stops}
 use Rattle.gh_parse.specs.Answers.{IsBetween}
-use Rattle.gh_parse.specs.Statements.{SpellsNamed, SpellsPart, SpellsRun}
+use Rattle.gh_parse.specs.Statements.{SpellsNamed, SpellsPart, SpellsOtherwise, no_else, an_else, SpellsRepeated, SpellsRun}
 use Rattle.gh_parse.proofs.Rules.{Exact, exact_tok, exact_seq, exact_with, exact_without, kept, kept_rest, each, taken_tok, by, form, begins_not, next, first_then, Ends, ends_tok, ends_seq, ends_by}
 use Rattle.gh_parse.proofs.Turns.{before, before-append}
 use Rattle.gh_parse.proofs.Runs.{before-none, Runs}
@@ -99,6 +99,23 @@ part_if p _ _ (any (an_if t b n)) = seq tok (seq (any (between _ t)) (seq (a_par
 part_if p _ _ (any (an_if_else t b d)) = seq tok (seq (any (between _ t)) (seq (a_part b) (with (a_part d))))
 part_if p _ _ (any (a_call t v)) = elim t [ ]
 
+-- the block after `else`
+pub make_otherwise : {c : Span} (xs r : List Token) → Opt (key kw.Else) ABlock xs r → Any (SpellsOtherwise c) xs r
+make_otherwise _ _ (without n) = any (no_else n)
+make_otherwise _ _ (with (any {x = b} a)) = any (an_else {b = b} a)
+
+pub part_otherwise : {c : Span} (xs r : List Token) → Any (SpellsOtherwise c) xs r → Opt (key kw.Else) ABlock xs r
+part_otherwise _ _ (any (no_else n)) = without n
+part_otherwise _ _ (any (an_else {b = b} a)) = with (any {x = b} a)
+
+pub else_spelled : {ts us : List Token} {p c : Span} → ts ≡ key kw.Else p ∷ us → (x : Part) (rest : List Token) → SpellsPart us x rest → SpellsOtherwise c ts x rest
+else_spelled {c = c} e x rest s = subst (λ z. SpellsOtherwise c z x rest) (sym e) (an_else {b = x} s)
+
+pub either_spelled : {ts us vs ws rest : List Token} {p c : Span} {t : Test} {b d : Part} → ts ≡ key kw.If p ∷ us → SpellsGuard us t vs → SpellsPart vs b ws → SpellsOtherwise c ws d rest → b.close ≡ c
+    → SpellsStatement ts (choice t b.statements b.close d.statements d.close) rest
+either_spelled {ts = ts} {t = t} {b = b} {d = d} a g s (no_else {ts = zs} n) e = subst (λ z. SpellsStatement ts (choice t b.statements b.close no_statements z) zs) e (if_spelled {b = b} a g s n)
+either_spelled {b = b} {d = d} a g s (an_else x) e = if_else_spelled {b = b} {d = d} a g s refl x
+
 -- `while`
 pub while_spelled : {ts us vs ws rest : List Token} {p : Span} {t : Test} {f : Formula} {b : Part} → ts ≡ key kw.While p ∷ us → SpellsGuard us t vs → SpellsClause kw.Invariant vs f ws → SpellsPart ws b rest
     → SpellsStatement ts (loop p t f b.statements b.close) rest
@@ -113,6 +130,19 @@ make_while _ _ (seq tok (seq (any g) (seq (any f) (any {x = b} a)))) = any (whil
 pub part_while : (p : Span) (xs r : List Token) → AStatement (key kw.While p ∷ xs) r → Loop (key kw.While p ∷ xs) r
 part_while p _ _ (any (a_while t f b)) = seq tok (seq (any (between _ t)) (seq (any f) (a_part b)))
 part_while p _ _ (any (a_call t v)) = elim t [ ]
+
+-- what a loop repeats
+abbrev pub Repeats : List Token → List Token → Type 0
+Repeats = Seq (Any (SpellsClause kw.Invariant)) ABlock
+
+pub repeat_spelled : {ts us rest : List Token} {f : Formula} {b : Part} → SpellsClause kw.Invariant ts f us → SpellsPart us b rest → SpellsRepeated ts (record { invariant = f; body = b }) rest
+repeat_spelled {us = us} i b = record { after_invariant = us; invariant = i; body = b }
+
+pub make_repeat : (xs r : List Token) → Repeats xs r → Any SpellsRepeated xs r
+make_repeat _ _ (seq (any {x = f} i) (any {x = b} a)) = any {x = record { invariant = f; body = b }} (repeat_spelled {b = b} i a)
+
+pub part_repeat : (xs r : List Token) → Any SpellsRepeated xs r → Repeats xs r
+part_repeat _ _ (any {x = x} s) = seq (any s.invariant) (any {x = x.body} s.body)
 
 -- statements that begin with a name
 abbrev SpellsName : List Token → Occ → List Token → Type 0
@@ -256,15 +286,14 @@ step_less {t = t} {ts = ts} {us = us} e = let d : length ts ≡ length (t ∷ us
 pub part_less : {ts rest : List Token} {b : Part} → SpellsPart ts b rest → length rest < length ts
 part_less {ts = ts} {rest = rest} {b = b} s = shorter_block s
 
-pub taken_less : {ts us vs : List Token} {p : Span} {t : Test} → ts ≡ key kw.If p ∷ us → SpellsGuard us t vs → 4 * length vs < 4 * length ts + 1
-taken_less a g = let h = step_less a in let k = guard_less g in omega arith
+pub guarded_less : {k : Token} {ts us vs : List Token} {t : Test} → ts ≡ k ∷ us → SpellsGuard us t vs → 4 * length vs + 1 < 4 * length ts + 1
+guarded_less a g = let h = step_less a in let k = guard_less g in omega arith
 
-pub otherwise_less : {ts us vs ws xs : List Token} {p q : Span} {t : Test} {b : Part} → ts ≡ key kw.If p ∷ us → SpellsGuard us t vs → SpellsPart vs b ws → ws ≡ key kw.Else q ∷ xs
-    → 4 * length xs < 4 * length ts + 1
-otherwise_less {b = b} a g s d = let h = step_less a in let k = guard_less g in let m = part_less {b = b} s in let n = step_less d in omega arith
+pub otherwise_less : {ts us vs ws : List Token} {p : Span} {t : Test} {b : Part} → ts ≡ key kw.If p ∷ us → SpellsGuard us t vs → SpellsPart vs b ws → 4 * length ws + 1 < 4 * length ts + 1
+otherwise_less {b = b} a g s = let h = step_less a in let k = guard_less g in let m = part_less {b = b} s in omega arith
 
-pub body_less : {ts us vs ws : List Token} {p : Span} {t : Test} {f : Formula} → ts ≡ key kw.While p ∷ us → SpellsGuard us t vs → SpellsClause kw.Invariant vs f ws → 4 * length ws < 4 * length ts + 1
-body_less {vs = vs} {ws = ws} {f = f} a g s = let h = step_less a in let k = guard_less g in let m = shorter_clause s in omega arith
+pub body_less : {ts us : List Token} {f : Formula} → SpellsClause kw.Invariant ts f us → 4 * length us < 4 * length ts + 1
+body_less s = let m = shorter_clause s in omega arith
 
 -- statements one by one
 pub runs_more : {start now rest : List Token} {xs ys : List Statement} {x : Statement} → Runs start now xs → SpellsStatement now x rest → NoSign sg.BraceClose now → ys ≡ xs ++ x ∷ [] → Runs start rest ys

@@ -42,12 +42,7 @@ part_view v c = fold-roll-Block Statement Part statement_step part_step (record 
 pub close_view : (b : Block) → (part_of b).close ≡ b.close
 close_view b = ap (λ p. p.close) (fold_out-Block Statement Part statement_step part_step b)
 
--- an `if` whose `else` is missing
-pub if_alone_view : (t : Cond) (a : Block) (v : Vec Stmt Global) → v.items ≡ []
-    → statement_of (stmt.If t a (roll-Block (record { statements = v; close = a.close }))) ≡ choice (test_of t) (part_of a).statements (part_of a).close no_statements (part_of a).close
-if_alone_view t a v e =
-    let part : part_of (roll-Block (record { statements = v; close = a.close })) ≡ record { statements = no_statements; close = (part_of a).close } =
-    part_view v a.close ∙ ap (λ (s : List Stmt). let p : Part = record { statements = statements_of (map statement_of s); close = a.close } in p) e
-    ∙ ap (λ (c : Span). let p : Part = record { statements = no_statements; close = c } in p) (sym (close_view a)) in
-    if_view t a (roll-Block (record { statements = v; close = a.close }))
-    ∙ ap (λ (q : Part). choice (test_of t) (part_of a).statements (part_of a).close q.statements q.close) part
+-- a block without statements
+pub empty_view : (v : Vec Stmt Global) (c : Span) → v.items ≡ [] → part_of (roll-Block (record { statements = v; close = c })) ≡ record { statements = no_statements; close = c }
+empty_view v c e =
+    part_view v c ∙ ap (λ (s : List Stmt). let p : Part = record { statements = statements_of (map statement_of s); close = c } in p) e

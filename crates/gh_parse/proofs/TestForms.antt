@@ -1,5 +1,6 @@
 -- How tests are made, and their rules as those that are put together.
-use Rattle.std.proofs.Common.{◌≡◌, List, [], ◌∷◌, ◌++◌, Bool, true, false, refl, sym, subst}
+use Rattle.std.proofs.Common.{◌≡◌, List, [], ◌∷◌, ◌++◌, Bool, true, false, Result, Ok, Err, refl, sym, subst}
+use Rattle.std.specs.Result.{result_and}
 use Rattle.gh_base.specs.declared.place.Span.{Span}
 use Rattle.gh_ast.specs.declared.Cond.{Cond}
 use Rattle.gh_ast.specs.declared.Expr.{Expr}
@@ -10,8 +11,10 @@ use Rattle.gh_ast.specs.Plain.{Test, compare, negation, conjunction, disjunction
 use Rattle.gh_ast.specs.Grammar.{NoSign, SpellsExpr, plain, SpellsLit, negated, bracketed, equated, distinguished, SpellsConj, one_lit, lits, SpellsLits, last_lit, next_lit, SpellsTest, one_conj, conjs, SpellsConjs, last_conj, next_conj}
 use Rattle.gh_ast.proofs.OneTest.{one_literal, one_conjunction, one_literals, one_test, one_conjunctions}
 use Rattle.gh_parse.specs.Stops.{Tok, tok, Any, any, Seq, seq, Opt, without, with, EndsHere, goes_on, Stops}
-use Rattle.gh_parse.specs.Answers.{SpellsComparison, IsBetween}
-use Rattle.gh_parse.proofs.Rules.{Exact, exact_tok, exact_seq, exact_with, exact_without, exact_by, kept, each, taken_tok, form, next, in_opt, Ends, ends_tok, ends_seq, ends_opt, ends_by}
+use Rattle.gh_parse.specs.declared.error.ReadError.{ReadError}
+use Rattle.gh_parse.specs.Answers.{SpellsComparison, IsBetween, IsRuleRead, TakesKind}
+use Rattle.gh_parse.proofs.Rules.{Exact, exact_tok, exact_seq, exact_with, exact_without, exact_by, kept, each, taken_tok, form, next, after, in_opt, Ends, ends_tok, ends_seq, ends_opt, ends_by}
+use Rattle.gh_parse.proofs.Exits.{within, missing}
 use Rattle.gh_parse.proofs.Turns.{Goes, before}
 use Rattle.gh_parse.proofs.ValueForms.{exact_expr, ends_expr}
 
@@ -44,6 +47,15 @@ exact_within f = exact_by make_between (part_between _) (exact_seq (exact_tok to
 pub ends_between : {X : Type 0} {F : List Token → Type 0} {opening closing : Sign} {P : List Token → X → List Token → Type 0}
     → ((p : Span) → goes_on (sign opening p) ≡ false) → ((p : Span) → goes_on (sign closing p) ≡ false) → Ends EndsHere (Any P) → Ends F (Any (IsBetween opening closing P))
 ends_between f g e = ends_by make_between (ends_seq (ends_tok first_place (f first_place)) (ends_seq e (ends_tok first_place (g first_place))))
+
+-- what is answered where the second sign is taken last
+pub closed : {X Y : Type 0} {opening : Sign} {P : List Token → X → List Token → Type 0} {p : Span} {ts us vs : List Token} (F : List Token → Type 0) (closing : Sign) (left : List Token) (view : Y → X) (y : Y)
+    (answer : Result Span ReadError)
+    → ts ≡ sign opening p ∷ us → ((ts us : List Token) → Any P ts us → Exact (Any P) ts us) → goes_on (sign closing first_place) ≡ false → P us (view y) vs → TakesKind (sign closing) vs answer left
+    → IsRuleRead F (IsBetween opening closing P) ts view (result_and answer (Ok y)) left
+closed {P = P} {p = p} {us = us} F closing left view y (Ok q) e exact g a h = record { first = p; last = q; inner = us; front = e; within = subst (λ z. P us (view y) z) h a }
+closed {p = p} {vs = vs} F closing left view y (Err r) e exact g a h =
+    within r (λ s. form make_between part_between (after p e (next exact (any a) s))) (missing F (sign closing) vs left r first_place g h)
 
 abbrev pub Guard : Bool → List Token → List Token → Type 0
 Guard reads = Any (IsBetween sg.ParenOpen sg.ParenClose (SpellsTest reads))

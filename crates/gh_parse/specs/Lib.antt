@@ -1,6 +1,7 @@
 pub mod Views
 pub mod Stops
 pub mod Answers
+pub mod Assertions
 pub mod Statements
 pub mod Procedures
 pub mod Questions

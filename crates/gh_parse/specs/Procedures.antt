@@ -7,8 +7,9 @@ use Rattle.gh_ast.specs.declared.Field.{Field}
 use Rattle.gh_ast.specs.declared.sign.Sign.TheVariants as sg
 use Rattle.gh_ast.specs.declared.sign.Keyword.TheVariants as kw
 use Rattle.gh_ast.specs.Plain as plain
-use Rattle.gh_ast.specs.Tokens.{Token, key, sign}
-use Rattle.gh_ast.specs.Grammar.{SpellsLocals, SpellsBody, SpellsWord, SpellsFields, SpellsProcedures}
+use Rattle.gh_ast.specs.Tokens.{Token, named, key, sign}
+use Rattle.gh_ast.specs.Grammar.{SpellsLocals, SpellsHeader, SpellsResults, SpellsBody, SpellsWord, SpellsFields, SpellsProcedures}
+use Rattle.gh_parse.specs.declared.procedures.Heading.{Heading}
 use Rattle.gh_parse.specs.declared.procedures.Ending.{Ending}
 use Rattle.gh_parse.specs.declared.programs.Fields.{Fields}
 
@@ -17,6 +18,24 @@ pub record AddsLocals (old : List Occ) (ts : List Token) (new : List Occ) (rest 
   pub locals : List Occ
   pub spelled : SpellsLocals ts locals rest
   pub added : new ≡ old ++ locals
+
+-- a procedure up to its results
+pub record Head : Type 0 where
+  pub name : Occ
+  pub parameters : List Occ
+  pub results : List Occ
+
+abbrev pub heading_of : Heading → Head
+heading_of h = record { name = h.name; parameters = h.parameters.items; results = h.results.items }
+
+pub record SpellsHeading (ts : List Token) (h : Head) (rest : List Token) : Type 0 where
+  pub word : Span
+  pub bracket : Span
+  pub inside : List Token
+  pub after_parameters : List Token
+  pub front : ts ≡ key kw.Procedure word ∷ named h.name ∷ sign sg.ParenOpen bracket ∷ inside
+  pub parameters : SpellsHeader inside h.parameters after_parameters
+  pub results : SpellsResults after_parameters h.results rest
 
 -- a body, or none, and the place of its end
 pub record Ended : Type 0 where

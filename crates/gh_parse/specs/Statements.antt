@@ -6,9 +6,11 @@ use Rattle.gh_ast.specs.declared.Expr.{Expr}
 use Rattle.gh_ast.specs.declared.Expr.TheVariants.{Plain}
 use Rattle.gh_ast.specs.declared.Operand.TheVariants.{Var}
 use Rattle.gh_ast.specs.declared.sign.Sign.TheVariants as sg
-use Rattle.gh_ast.specs.Plain.{Statement, Part}
-use Rattle.gh_ast.specs.Tokens.{Token, named, sign}
-use Rattle.gh_ast.specs.Grammar.{SpellsValues, SpellsTargets, SpellsStatement, SpellsBlock, SpellsStatements}
+use Rattle.gh_ast.specs.declared.sign.Keyword.TheVariants as kw
+use Rattle.gh_ast.specs.Plain.{Formula, formula_of, Statement, no_statements, Part, part_of}
+use Rattle.gh_ast.specs.Tokens.{Token, named, key, sign}
+use Rattle.gh_ast.specs.Grammar.{NoKey, SpellsClause, SpellsValues, SpellsTargets, SpellsStatement, SpellsBlock, SpellsStatements}
+use Rattle.gh_parse.specs.declared.statements.Repeated.{Repeated}
 
 -- the variable that the expression is, if it is one
 abbrev pub IsVariableOf : Expr → Option Occ → Type 0
@@ -35,3 +37,21 @@ SpellsPart ts p rest = SpellsBlock ts p.statements p.close rest
 
 abbrev pub SpellsRun : List Token → Part → List Token → Type 0
 SpellsRun ts p rest = SpellsStatements ts p.statements p.close rest
+
+-- `else` and a block, or nothing where the word is missing: an empty block that closes at the place
+pub data SpellsOtherwise (close : Span) : List Token → Part → List Token → Type 0 where
+  no_else : {ts : List Token} → NoKey kw.Else ts → SpellsOtherwise close ts (record { statements = no_statements; close = close }) ts
+  an_else : {p : Span} {ts rest : List Token} {b : Part} → SpellsPart ts b rest → SpellsOtherwise close (key kw.Else p ∷ ts) b rest
+
+-- an invariant, which may be missing, and a block
+pub record Repeat : Type 0 where
+  pub invariant : Formula
+  pub body : Part
+
+abbrev pub repeat_of : Repeated → Repeat
+repeat_of r = record { invariant = formula_of r.invariant; body = part_of r.body }
+
+pub record SpellsRepeated (ts : List Token) (r : Repeat) (rest : List Token) : Type 0 where
+  pub after_invariant : List Token
+  pub invariant : SpellsClause kw.Invariant ts r.invariant after_invariant
+  pub body : SpellsPart after_invariant r.body rest

@@ -8,6 +8,7 @@ ghost use Rattle.gh_ast.specs.Plain.{formula_of};
 ghost use Rattle.gh_parse.specs.Views.{tokens_of};
 ghost use Rattle.gh_parse.specs.Stops.{EndsHere, IsAny, goes_on};
 ghost use Rattle.gh_parse.specs.Answers.{IsReadBy, IsBetween, IsAhead, HasKey};
+ghost use Rattle.gh_parse.specs.Assertions.{SpellsBraced};
 
 use crate::cursor::{Ahead, Parser};
 use crate::error::ReadError;
@@ -111,14 +112,19 @@ impl<'t> Parser<'t> {
     {
         self.expect_key(Keyword::If)?;
         let test = self.enclosed_test(alloc, false)?;
-        let yes = self.enclosed_assertion(alloc, Sign::BraceOpen, Sign::BraceClose)?;
+        let yes = self.braced(alloc)?;
         self.expect_key(Keyword::Else)?;
-        let no = self.enclosed_assertion(alloc, Sign::BraceOpen, Sign::BraceClose)?;
-        Ok(Assertion::Cases {
-            test,
-            yes: Box::new(alloc, yes)?,
-            no: Box::new(alloc, no)?,
-        })
+        let no = self.braced(alloc)?;
+        Ok(Assertion::Cases { test, yes, no })
+    }
+
+    // Reads an assertion in braces.
+    #[cycle(assertion)]
+    fn braced(&mut self, alloc: Global) -> Result<Box<Assertion>, ReadError>
+        ensures { IsReadBy IsAny SpellsBraced self.old (λ b. formula_of b.value) result self.new }
+    {
+        let inner = self.enclosed_assertion(alloc, Sign::BraceOpen, Sign::BraceClose)?;
+        Ok(Box::new(alloc, inner)?)
     }
 
     /// Reads an assertion between two signs.
@@ -135,8 +141,7 @@ impl<'t> Parser<'t> {
     {
         self.expect_sign(opening)?;
         let inner = self.assertion(alloc)?;
-        self.expect_sign(closing)?;
-        Ok(inner)
+        self.expect_sign(closing).and(Ok(inner))
     }
 
     // Reads `acc ( NAME )`.

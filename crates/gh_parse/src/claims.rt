@@ -82,7 +82,6 @@ impl<'t> Parser<'t> {
     {
         self.expect_sign(Sign::ParenOpen)?;
         let inner = self.claim(alloc)?;
-        self.expect_sign(Sign::ParenClose)?;
-        Ok(inner)
+        self.expect_sign(Sign::ParenClose).and(Ok(inner))
     }
 }

@@ -71,12 +71,12 @@ impl<'t> Parser<'t> {
     /// Reads a test in round brackets.
     #[cycle(condition)]
     pub fn enclosed_test(&mut self, alloc: Global, reads: bool) -> Result<Cond, ReadError>
-        ensures { IsReadBy EndsHere (IsBetween ParenOpen ParenClose (SpellsTest reads)) self.old test_of result self.new }
+        ensures { IsReadBy EndsHere (IsBetween ParenOpen ParenClose (SpellsTest reads))
+            self.old test_of result self.new }
     {
         self.expect_sign(Sign::ParenOpen)?;
         let test = self.test(alloc, reads)?;
-        self.expect_sign(Sign::ParenClose)?;
-        Ok(test)
+        self.expect_sign(Sign::ParenClose).and(Ok(test))
     }
 
     // Reads a comparison of two expressions.

@@ -4,7 +4,7 @@ ghost use Rattle.gh_ast.specs.Grammar.{SpellsInside, SpellsParams, SpellsHeader,
 ghost use Rattle.gh_ast.specs.Plain.{inside_of, procedure_of};
 ghost use Rattle.gh_parse.specs.Stops.{EndsHere};
 ghost use Rattle.gh_parse.specs.Answers.{IsReadBy};
-ghost use Rattle.gh_parse.specs.Procedures.{AddsLocals, SpellsEnded, ended_of};
+ghost use Rattle.gh_parse.specs.Procedures.{AddsLocals, SpellsHeading, heading_of, SpellsEnded, ended_of};
 
 use crate::cursor::Parser;
 use crate::error::ReadError;
@@ -18,6 +18,14 @@ use std::alloc::Global;
 pub struct Ending {
     pub body: Option<Body>,
     pub close: Span,
+}
+
+/// What stands before the contracts of a procedure.
+#[derive(Debug, Drop)]
+pub struct Heading {
+    pub name: Occ,
+    pub parameters: Vec<Occ>,
+    pub results: Vec<Occ>,
 }
 
 impl<'t> Parser<'t> {
@@ -90,6 +98,22 @@ impl<'t> Parser<'t> {
         self.header(alloc)
     }
 
+    // Reads a procedure up to its results.
+    fn heading(&mut self, alloc: Global) -> Result<Heading, ReadError>
+        ensures { IsReadBy EndsHere SpellsHeading self.old heading_of result self.new }
+    {
+        self.expect_key(Keyword::Procedure)?;
+        let name = self.expect_name(alloc)?;
+        self.expect_sign(Sign::ParenOpen)?;
+        let parameters = self.header(alloc)?;
+        let results = self.results(alloc)?;
+        Ok(Heading {
+            name,
+            parameters,
+            results,
+        })
+    }
+
     /// Reads a body, or a semicolon in its place.
     pub fn ending(&mut self, alloc: Global) -> Result<Ending, ReadError>
         ensures { IsReadBy EndsHere SpellsEnded self.old ended_of result self.new }
@@ -111,18 +135,14 @@ impl<'t> Parser<'t> {
     pub fn procedure(&mut self, alloc: Global) -> Result<Procedure, ReadError>
         ensures { IsReadBy EndsHere SpellsProcedure self.old procedure_of result self.new }
     {
-        self.expect_key(Keyword::Procedure)?;
-        let name = self.expect_name(alloc)?;
-        self.expect_sign(Sign::ParenOpen)?;
-        let parameters = self.header(alloc)?;
-        let results = self.results(alloc)?;
+        let heading = self.heading(alloc)?;
         let needs = self.clause(alloc, Keyword::Requires)?;
         let gives = self.ensured(alloc)?;
         let ending = self.ending(alloc)?;
         Ok(Procedure {
-            name,
-            parameters,
-            results,
+            name: heading.name,
+            parameters: heading.parameters,
+            results: heading.results,
             needs,
             gives,
             body: ending.body,

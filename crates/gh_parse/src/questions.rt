@@ -5,7 +5,7 @@ ghost use Rattle.gh_ast.specs.Questions.{claim_of, question_of};
 ghost use Rattle.gh_parse.specs.Stops.{IsAny, IsEnd};
 ghost use Rattle.gh_parse.specs.Answers.{IsReadBy};
 ghost use Rattle.gh_parse.specs.Procedures.{SpellsToEnd};
-ghost use Rattle.gh_parse.specs.Questions.{SpellsWhole};
+ghost use Rattle.gh_parse.specs.Questions.{SpellsWhole, SpellsClaims, claims_of};
 ghost use Rattle.gh_ast.specs.QuestionGrammar.{SpellsClaim};
 
 use crate::cursor::Parser;
@@ -15,6 +15,13 @@ use gh_ast::question::{Claim, Question};
 use gh_ast::sign::Keyword;
 use std::alloc::Global;
 
+/// The claims of a question.
+#[derive(Debug, Drop)]
+pub struct Claims {
+    pub left: Claim,
+    pub right: Claim,
+}
+
 impl<'t> Parser<'t> {
     /// Reads a whole question.
     pub fn question(&mut self, alloc: Global) -> Result<Question, ReadError>
@@ -22,14 +29,12 @@ impl<'t> Parser<'t> {
     {
         let variables = self.variables(alloc)?;
         let span = self.expect_key(Keyword::Requires)?;
-        let left = self.claim(alloc)?;
-        self.expect_key(Keyword::Ensures)?;
-        let right = self.last_claim(alloc)?;
+        let claims = self.claims(alloc)?;
         Ok(Question {
             variables,
             span,
-            left,
-            right,
+            left: claims.left,
+            right: claims.right,
         })
     }
 
@@ -44,6 +49,16 @@ impl<'t> Parser<'t> {
         self.expect_key(Keyword::Var)?;
         self.declaration(alloc, &mut variables)?;
         Ok(variables)
+    }
+
+    // Reads two claims with `ensures` between them, after which no token is left.
+    fn claims(&mut self, alloc: Global) -> Result<Claims, ReadError>
+        ensures { IsReadBy IsEnd SpellsClaims self.old claims_of result self.new }
+    {
+        let claim = self.claim(alloc)?;
+        let left = self.expect_key(Keyword::Ensures).and(Ok(claim))?;
+        let right = self.last_claim(alloc)?;
+        Ok(Claims { left, right })
     }
 
     // Reads a claim after which no token is left.

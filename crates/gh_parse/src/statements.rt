@@ -5,13 +5,21 @@ ghost use Rattle.gh_ast.specs.Plain.{statement_of, part_of};
 ghost use Rattle.gh_parse.specs.Views.{tokens_of};
 ghost use Rattle.gh_parse.specs.Stops.{EndsHere};
 ghost use Rattle.gh_parse.specs.Answers.{IsReadBy, HasKey};
-ghost use Rattle.gh_parse.specs.Statements.{SpellsPart, SpellsRun};
+ghost use Rattle.gh_parse.specs.Statements.{SpellsPart, SpellsOtherwise, SpellsRepeated, repeat_of, SpellsRun};
 
 use crate::cursor::Parser;
 use crate::error::ReadError;
 use gh_ast::sign::{Keyword, Sign};
-use gh_ast::{Block, Stmt};
+use gh_ast::{Assertion, Block, Stmt};
+use gh_base::place::Span;
 use std::alloc::Global;
+
+/// What a loop repeats.
+#[derive(Debug, Drop)]
+pub struct Repeated {
+    pub invariant: Assertion,
+    pub body: Block,
+}
 
 impl<'t> Parser<'t> {
     /// Reads `free` and what follows it.
@@ -45,24 +53,27 @@ impl<'t> Parser<'t> {
         self.expect_key(Keyword::If)?;
         let test = self.enclosed_test(alloc, true)?;
         let taken = self.block(alloc)?;
-        if !self.is_key(Keyword::Else) {
-            let otherwise = Block {
-                statements: Vec::new(alloc),
-                close: taken.close,
-            };
-            return Ok(Stmt::If {
-                test,
-                taken,
-                otherwise,
-            });
-        }
-        self.expect_key(Keyword::Else)?;
-        let otherwise = self.block(alloc)?;
+        let otherwise = self.otherwise(alloc, taken.close)?;
         Ok(Stmt::If {
             test,
             taken,
             otherwise,
         })
+    }
+
+    // Reads `else` and the block after it. Where the word is missing, the block is empty and closes at the place.
+    #[cycle(statement)]
+    fn otherwise(&mut self, alloc: Global, close: Span) -> Result<Block, ReadError>
+        ensures { IsReadBy EndsHere (SpellsOtherwise close) self.old part_of result self.new }
+    {
+        if !self.is_key(Keyword::Else) {
+            return Ok(Block {
+                statements: Vec::new(alloc),
+                close,
+            });
+        }
+        self.expect_key(Keyword::Else)?;
+        self.block(alloc)
     }
 
     /// Reads `while` and what follows it.
@@ -73,14 +84,23 @@ impl<'t> Parser<'t> {
     {
         let span = self.expect_key(Keyword::While)?;
         let test = self.enclosed_test(alloc, true)?;
-        let invariant = self.clause(alloc, Keyword::Invariant)?;
-        let body = self.block(alloc)?;
+        let repeated = self.repeated(alloc)?;
         Ok(Stmt::While {
             span,
             test,
-            invariant,
-            body,
+            invariant: repeated.invariant,
+            body: repeated.body,
         })
+    }
+
+    // Reads what a loop repeats.
+    #[cycle(statement)]
+    fn repeated(&mut self, alloc: Global) -> Result<Repeated, ReadError>
+        ensures { IsReadBy EndsHere SpellsRepeated self.old repeat_of result self.new }
+    {
+        let invariant = self.clause(alloc, Keyword::Invariant)?;
+        let body = self.block(alloc)?;
+        Ok(Repeated { invariant, body })
     }
 
     /// Reads a statement.

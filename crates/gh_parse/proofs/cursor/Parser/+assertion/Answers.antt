@@ -2,12 +2,12 @@ use Rattle.std.proofs.Common.{refl, arith, ap, length}
 use Rattle.gh_ast.specs.Tokens.{first_place}
 use Rattle.gh_ast.specs.Plain.{star, formula_first, no_formulas, formula_of}
 use Rattle.gh_ast.proofs.Shorter.{shorter_item}
-use Rattle.gh_parse.specs.Stops.{any}
+use Rattle.gh_parse.specs.Stops.{any, IsAny}
 use Rattle.gh_parse.proofs.Rules.{by, form, told, first, first_any, form_first, next, after, after_between, breaks_tok, each, of_any, ends_tok, ends_seq, ends_opt, sentences_tok}
 use Rattle.gh_parse.proofs.Exits.{exit, exit_missing, along, missing}
 use Rattle.gh_parse.proofs.Folds.{formula_of-emp, formula_of-cases, formula_of-star, formulas_before}
 use Rattle.gh_parse.proofs.Turns.{chain_more, chain_last, fewer}
-use Rattle.gh_parse.proofs.TestForms.{make_between, part_between, exact_guard}
+use Rattle.gh_parse.proofs.TestForms.{closed, make_between, part_between, exact_guard}
 use Rattle.gh_parse.proofs.AssertionForms.{assertion_alone, assertion_start, items_rest, items_more, items_last, make_assertion, part_assertion, make_items, part_items, make_choice, part_choice}
 use Rattle.gh_parse.proofs.AssertionForms.{exact_assertion, ends_assertion, ends_choice, ends_braced, exact_braced, no_item, in_bracketed, chosen, bracketed, shorter_choosing, shorter_braced, empty_item}
 use Rattle.gh_parse.proofs.cursor.Parser.+assertion.Goals as goal
@@ -51,11 +51,11 @@ cases-returns-in_err-test t c =
     exit _ _ _ (λ s. by make_choice (told _ _ _ c.in_ok-expect_key.ensures part_choice) (after _ c.in_ok-expect_key.ensures (first ends_choice s))) c.in_err-test.ensures
     c.from_residual-in_err-test.ensures.1
 
-pub cases-enclosed_assertion-requires : goal.cases-enclosed_assertion-requires
-cases-enclosed_assertion-requires t c =
+pub cases-braced-requires : goal.cases-braced-requires
+cases-braced-requires t c =
     let e = ap length c.in_ok-expect_key.ensures in
     let h = shorter_choosing _ _ _ c.in_ok-test.ensures in
-    (omega (arith, e, h), (λ p. refl, λ p. refl))
+    (omega (arith, e, h), tt)
 
 pub cases-returns-in_err-yes : goal.cases-returns-in_err-yes
 cases-returns-in_err-yes t c =
@@ -74,13 +74,13 @@ cases-returns-in_err-expect_key-2 t c =
     (after_between (each exact_assertion) (part_between _ _ (any c.in_ok-yes.ensures)) (breaks_tok first_place (ends_braced _) n)))))) c.in_err-expect_key-2.ensures
     c.from_residual-in_err-expect_key-2.ensures.1
 
-pub cases-enclosed_assertion-requires-2 : goal.cases-enclosed_assertion-requires-2
-cases-enclosed_assertion-requires-2 t c =
+pub cases-braced-requires-2 : goal.cases-braced-requires-2
+cases-braced-requires-2 t c =
     let e = ap length c.in_ok-expect_key.ensures in
     let h = shorter_choosing _ _ _ c.in_ok-test.ensures in
     let i = shorter_braced _ _ _ c.in_ok-yes.ensures in
     let f = ap length c.in_ok-expect_key-2.ensures in
-    (omega (arith, e, h, i, f), (λ p. refl, λ p. refl))
+    (omega (arith, e, h, i, f), tt)
 
 pub cases-returns-in_err-no : goal.cases-returns-in_err-no
 cases-returns-in_err-no t c =
@@ -92,8 +92,14 @@ cases-returns-in_err-no t c =
 
 pub cases-returns : goal.cases-returns
 cases-returns t c =
-    rw (formula_of-cases c.in_ok-test.test c.in_ok-new.field-0 c.in_ok-new-2.field-0, c.in_ok-new.ensures.ok, c.in_ok-new-2.ensures.ok)
+    rw (formula_of-cases c.in_ok-test.test c.in_ok-yes.yes c.in_ok-no.no)
     (chosen c.in_ok-expect_key.ensures c.in_ok-test.ensures c.in_ok-yes.ensures c.in_ok-expect_key-2.ensures c.in_ok-no.ensures)
+
+pub braced-returns-in_err-inner : goal.braced-returns-in_err-inner
+braced-returns-in_err-inner t c = exit _ _ _ (λ s. s) c.in_err-inner.ensures c.from_residual.ensures.1
+
+pub braced-returns : goal.braced-returns
+braced-returns t c = rw c.in_ok-new.ensures.ok c.in_ok-inner.ensures
 
 pub enclosed_assertion-returns-in_err-expect_sign : goal.enclosed_assertion-returns-in_err-expect_sign
 enclosed_assertion-returns-in_err-expect_sign t c =
@@ -105,10 +111,9 @@ enclosed_assertion-returns-in_err-inner t c =
     exit _ _ _ (λ s. form make_between part_between (after _ c.in_ok-expect_sign.ensures (first (ends_tok first_place (c.requires.ends first_place)) s))) c.in_err-inner.ensures
     c.from_residual-in_err-inner.ensures.1
 
-pub enclosed_assertion-returns-in_err-expect_sign-2 : goal.enclosed_assertion-returns-in_err-expect_sign-2
-enclosed_assertion-returns-in_err-expect_sign-2 t c =
-    exit _ _ _ (λ s. form make_between part_between (after _ c.in_ok-expect_sign.ensures (next (each exact_assertion) (any c.in_ok-inner.ensures) s)))
-    (missing _ _ _ _ _ first_place (c.requires.ends first_place) c.in_err-expect_sign-2.ensures) c.from_residual-in_err-expect_sign-2.ensures.1
+pub enclosed_assertion-returns : goal.enclosed_assertion-returns
+enclosed_assertion-returns t c =
+    rw c.and.ensures (closed IsAny _ _ _ _ _ c.in_ok-expect_sign.ensures (each exact_assertion) (c.requires.ends first_place) c.in_ok-inner.ensures c.expect_sign-2.ensures)
 
 pub item-returns-in_default : goal.item-returns-in_default
 item-returns-in_default t c =

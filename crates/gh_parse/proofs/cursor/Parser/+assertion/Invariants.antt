@@ -18,6 +18,9 @@ decreases-item_by_word l = 5 * length (tokens_of l.self.now.rest.now) + 2
 abbrev pub decreases-cases : goal.decreases-cases
 decreases-cases l = 5 * length (tokens_of l.self.now.rest.now) + 1
 
+abbrev pub decreases-braced : goal.decreases-braced
+decreases-braced l = 5 * length (tokens_of l.self.now.rest.now) + 1
+
 abbrev pub decreases-enclosed_assertion : goal.decreases-enclosed_assertion
 decreases-enclosed_assertion l = 5 * length (tokens_of l.self.now.rest.now)
 

@@ -3,11 +3,11 @@ use Rattle.gh_ast.specs.Tokens.{first_place}
 use Rattle.gh_ast.specs.Questions.{every, either, claim_first, no_claims, claim_of}
 use Rattle.gh_ast.proofs.QuestionViews.{claim_of-Leaf, claim_of-Not, claim_of-And, claim_of-Or}
 use Rattle.gh_ast.proofs.ShorterQuestion.{shorter_denial, shorter_both}
-use Rattle.gh_parse.specs.Stops.{any}
-use Rattle.gh_parse.proofs.Rules.{by, form, told, begins_not, at_same, first, next, after, each, of_any}
+use Rattle.gh_parse.specs.Questions.{IsApart}
+use Rattle.gh_parse.proofs.Rules.{by, form, told, begins_not, at_same, first, after, each, of_any}
 use Rattle.gh_parse.proofs.Exits.{exit, along, missing}
 use Rattle.gh_parse.proofs.Turns.{chain_more, chain_last, fewer}
-use Rattle.gh_parse.proofs.TestForms.{make_between, part_between}
+use Rattle.gh_parse.proofs.TestForms.{closed, make_between, part_between}
 use Rattle.gh_parse.proofs.ClaimForms.{first_apart, make_braced, part_braced, make_bracketed, part_bracketed, bracketed, braced, make_affirmed, part_affirmed, make_denied, part_denied, not_so, as_it_stands}
 use Rattle.gh_parse.proofs.ClaimForms.{make_both, part_both, make_denials, part_denials, make_claim, part_claim, make_boths, part_boths, exact_claim, no_and, no_or, bracket_closes, claim_closes, at_once, claims_before}
 use Rattle.gh_parse.proofs.ClaimForms.{both_alone, both_start, denials_rest, denials_more, denials_last, claim_alone, claim_start, boths_rest, boths_more, boths_last}
@@ -96,10 +96,9 @@ enclosed_claim-returns-in_err-inner t c =
     exit _ _ _ (λ s. form make_between part_between (after _ c.in_ok-expect_sign.ensures (first_apart bracket_closes s))) c.in_err-inner.ensures
     c.from_residual-in_err-inner.ensures.1
 
-pub enclosed_claim-returns-in_err-expect_sign-2 : goal.enclosed_claim-returns-in_err-expect_sign-2
-enclosed_claim-returns-in_err-expect_sign-2 t c =
-    exit _ _ _ (λ s. form make_between part_between (after _ c.in_ok-expect_sign.ensures (next (each exact_claim) (any c.in_ok-inner.ensures) s)))
-    (missing _ _ _ _ _ first_place refl c.in_err-expect_sign-2.ensures) c.from_residual-in_err-expect_sign-2.ensures.1
+pub enclosed_claim-returns : goal.enclosed_claim-returns
+enclosed_claim-returns t c =
+    rw c.and.ensures (closed IsApart _ _ _ _ _ c.in_ok-expect_sign.ensures (each exact_claim) refl c.in_ok-inner.ensures c.expect_sign-2.ensures)
 
 pub claim_part-returns-then-is_sign : goal.claim_part-returns-then-is_sign
 claim_part-returns-then-is_sign t c =

@@ -2,12 +2,12 @@ use Rattle.std.proofs.Common.{refl, arith}
 use Rattle.gh_ast.specs.Tokens.{first_place}
 use Rattle.gh_ast.specs.Plain.{conjunction, disjunction, test_first, no_tests, test_of}
 use Rattle.gh_ast.proofs.Shorter.{shorter_literal, shorter_conjunction}
-use Rattle.gh_parse.specs.Stops.{any}
-use Rattle.gh_parse.proofs.Rules.{by, form, told, first, next, after, each, ends_tok, ends_seq, ends_opt}
+use Rattle.gh_parse.specs.Stops.{EndsHere}
+use Rattle.gh_parse.proofs.Rules.{by, form, told, first, after, each, ends_tok, ends_seq, ends_opt}
 use Rattle.gh_parse.proofs.Exits.{exit, along, missing}
 use Rattle.gh_parse.proofs.Folds.{test_of-not, test_of-and, test_of-or, tests_before}
 use Rattle.gh_parse.proofs.Turns.{chain_more, chain_last, fewer}
-use Rattle.gh_parse.proofs.TestForms.{make_between, part_between, make_negated, part_negated, make_bracketed, part_bracketed, make_conj, part_conj, make_lits, part_lits, make_test, part_test, make_conjs, part_conjs}
+use Rattle.gh_parse.proofs.TestForms.{closed, make_between, part_between, make_negated, part_negated, make_bracketed, part_bracketed, make_conj, part_conj, make_lits, part_lits, make_test, part_test, make_conjs, part_conjs}
 use Rattle.gh_parse.proofs.TestForms.{exact_test, ends_test, denied, bare}
 use Rattle.gh_parse.proofs.TestForms.{conjunction_alone, conjunction_start, literals_rest, literals_more, literals_last, test_alone, test_start, conjunctions_rest, conjunctions_more, conjunctions_last}
 use Rattle.gh_parse.proofs.cursor.Parser.+condition.Goals as goal
@@ -96,10 +96,9 @@ enclosed_test-returns-in_err-test t c =
     exit _ _ _ (λ s. form make_between part_between (after _ c.in_ok-expect_sign.ensures (first (ends_tok first_place refl) s))) c.in_err-test.ensures
     c.from_residual-in_err-test.ensures.1
 
-pub enclosed_test-returns-in_err-expect_sign-2 : goal.enclosed_test-returns-in_err-expect_sign-2
-enclosed_test-returns-in_err-expect_sign-2 t c =
-    exit _ _ _ (λ s. form make_between part_between (after _ c.in_ok-expect_sign.ensures (next (each exact_test) (any c.in_ok-test.ensures) s)))
-    (missing _ _ _ _ _ first_place refl c.in_err-expect_sign-2.ensures) c.from_residual-in_err-expect_sign-2.ensures.1
+pub enclosed_test-returns : goal.enclosed_test-returns
+enclosed_test-returns t c =
+    rw c.and.ensures (closed EndsHere _ _ _ _ _ c.in_ok-expect_sign.ensures (each exact_test) refl c.in_ok-test.ensures c.expect_sign-2.ensures)
 
 pub literal-returns-in_err-inner : goal.literal-returns-in_err-inner
 literal-returns-in_err-inner t c =

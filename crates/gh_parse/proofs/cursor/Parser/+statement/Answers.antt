@@ -3,15 +3,16 @@ use Rattle.gh_ast.specs.Tokens.{first_place}
 use Rattle.gh_ast.specs.Plain.{part_of}
 use Rattle.gh_ast.proofs.ShorterStatement.{shorter_statement}
 use Rattle.gh_parse.specs.Stops.{any}
+use Rattle.gh_parse.specs.Statements.{no_else}
 use Rattle.gh_parse.proofs.Rules.{by, form, told, begins_not, first, next, after, in_opt, ends_seq, ends_opt}
 use Rattle.gh_parse.proofs.Exits.{exit, along, missing}
-use Rattle.gh_parse.proofs.StatementViews.{if_view, while_view, part_view, if_alone_view}
+use Rattle.gh_parse.proofs.StatementViews.{if_view, while_view, part_view, close_view, empty_view}
 use Rattle.gh_parse.proofs.ValueForms.{a_name}
 use Rattle.gh_parse.proofs.TestForms.{exact_guard}
 use Rattle.gh_parse.proofs.AssertionForms.{exact_clause, ends_clause}
 use Rattle.gh_parse.proofs.CallForms.{spelled_at, in_named}
 use Rattle.gh_parse.proofs.StatementForms.{make_if, part_if, make_while, part_while, make_more, part_more, make_block, part_block, exact_part, ends_run, ends_block, no_statement}
-use Rattle.gh_parse.proofs.StatementForms.{if_spelled, if_else_spelled, while_spelled, taken_less, otherwise_less, body_less, runs_more, runs_end, block_spelled, pushed}
+use Rattle.gh_parse.proofs.StatementForms.{make_otherwise, part_otherwise, else_spelled, either_spelled, step_less, while_spelled, guarded_less, otherwise_less, body_less, make_repeat, part_repeat, repeat_spelled, runs_more, runs_end, block_spelled, pushed}
 use Rattle.gh_parse.proofs.cursor.Parser.+statement.Goals as goal
 
 pub block-returns-in_err-expect_sign : goal.block-returns-in_err-expect_sign
@@ -30,7 +31,7 @@ if_statement-returns-in_err-test t c =
 
 pub if_statement-block-requires : goal.if_statement-block-requires
 if_statement-block-requires t c =
-    let h = taken_less c.in_ok-expect_key.ensures c.in_ok-test.ensures in (omega arith, tt)
+    let h = guarded_less c.in_ok-expect_key.ensures c.in_ok-test.ensures in (omega arith, tt)
 
 pub if_statement-returns-in_err-taken : goal.if_statement-returns-in_err-taken
 if_statement-returns-in_err-taken t c =
@@ -39,26 +40,31 @@ if_statement-returns-in_err-taken t c =
     (after _ c.in_ok-expect_key.ensures (next exact_guard (any c.in_ok-test.ensures) (first (ends_opt (λ p. refl)) s)))) c.in_err-taken.ensures
     c.from_residual-in_err-taken.ensures.1
 
-pub if_statement-returns-then-not-is_key : goal.if_statement-returns-then-not-is_key
-if_statement-returns-then-not-is_key t c =
-    rw (if_alone_view c.in_ok-test.test c.in_ok-taken.taken c.new.result c.new.ensures.items)
-    (if_spelled c.in_ok-expect_key.ensures c.in_ok-test.ensures c.in_ok-taken.ensures c.if-not-is_key.ensures)
-
-pub if_statement-block-requires-2 : goal.if_statement-block-requires-2
-if_statement-block-requires-2 t c =
-    let h = otherwise_less {b = part_of c.in_ok-taken.taken} c.in_ok-expect_key.ensures c.in_ok-test.ensures c.in_ok-taken.ensures c.in_ok-expect_key-2.ensures in (omega arith, tt)
+pub if_statement-otherwise-requires : goal.if_statement-otherwise-requires
+if_statement-otherwise-requires t c =
+    let h = otherwise_less {b = part_of c.in_ok-taken.taken} c.in_ok-expect_key.ensures c.in_ok-test.ensures c.in_ok-taken.ensures in (omega arith, tt)
 
 pub if_statement-returns-in_err-otherwise : goal.if_statement-returns-in_err-otherwise
 if_statement-returns-in_err-otherwise t c =
     exit _ _ _
     (λ s. by make_if (told _ _ _ c.in_ok-expect_key.ensures part_if)
     (after _ c.in_ok-expect_key.ensures
-    (next exact_guard (any c.in_ok-test.ensures) (next exact_part (any {x = part_of c.in_ok-taken.taken} c.in_ok-taken.ensures) (in_opt _ c.in_ok-expect_key-2.ensures s)))))
+    (next exact_guard (any c.in_ok-test.ensures) (next exact_part (any {x = part_of c.in_ok-taken.taken} c.in_ok-taken.ensures) (form part_otherwise make_otherwise s)))))
     c.in_err-otherwise.ensures c.from_residual-in_err-otherwise.ensures.1
 
 pub if_statement-returns : goal.if_statement-returns
 if_statement-returns t c =
-    rw if_view (if_else_spelled c.in_ok-expect_key.ensures c.in_ok-test.ensures c.in_ok-taken.ensures c.in_ok-expect_key-2.ensures c.in_ok-otherwise.ensures)
+    rw if_view (either_spelled c.in_ok-expect_key.ensures c.in_ok-test.ensures c.in_ok-taken.ensures c.in_ok-otherwise.ensures (close_view c.in_ok-taken.taken))
+
+pub otherwise-returns-then-not-is_key : goal.otherwise-returns-then-not-is_key
+otherwise-returns-then-not-is_key t c = rw (empty_view c.new.result c.args.close c.new.ensures.items) (no_else c.if-not-is_key.ensures)
+
+pub otherwise-block-requires : goal.otherwise-block-requires
+otherwise-block-requires t c = let h = step_less c.in_ok-expect_key.ensures in (omega arith, tt)
+
+pub otherwise-returns : goal.otherwise-returns
+otherwise-returns t c =
+    along _ _ (λ x h. else_spelled c.in_ok-expect_key.ensures x _ h) (λ s. form make_otherwise part_otherwise (in_opt _ c.in_ok-expect_key.ensures s)) c.block.ensures
 
 pub statement-returns-in_err-name : goal.statement-returns-in_err-name
 statement-returns-in_err-name t c =
@@ -91,23 +97,33 @@ while_statement-returns-in_err-test t c =
     (λ s. by make_while (told _ _ _ c.in_ok-span.ensures part_while) (after _ c.in_ok-span.ensures (first (ends_seq (ends_clause (λ p. refl)) ends_block) s)))
     c.in_err-test.ensures c.from_residual-in_err-test.ensures.1
 
-pub while_statement-returns-in_err-invariant : goal.while_statement-returns-in_err-invariant
-while_statement-returns-in_err-invariant t c =
-    exit _ _ _
-    (λ s. by make_while (told _ _ _ c.in_ok-span.ensures part_while) (after _ c.in_ok-span.ensures (next exact_guard (any c.in_ok-test.ensures) (first ends_block s))))
-    c.in_err-invariant.ensures c.from_residual-in_err-invariant.ensures.1
+pub while_statement-repeated-requires : goal.while_statement-repeated-requires
+while_statement-repeated-requires t c =
+    let h = guarded_less c.in_ok-span.ensures c.in_ok-test.ensures in (omega arith, tt)
 
-pub while_statement-block-requires : goal.while_statement-block-requires
-while_statement-block-requires t c =
-    let h = body_less c.in_ok-span.ensures c.in_ok-test.ensures c.in_ok-invariant.ensures in (omega arith, tt)
-
-pub while_statement-returns-in_err-body : goal.while_statement-returns-in_err-body
-while_statement-returns-in_err-body t c =
+pub while_statement-returns-in_err-repeated : goal.while_statement-returns-in_err-repeated
+while_statement-returns-in_err-repeated t c =
     exit _ _ _
     (λ s. by make_while (told _ _ _ c.in_ok-span.ensures part_while)
-    (after _ c.in_ok-span.ensures (next exact_guard (any c.in_ok-test.ensures) (next (exact_clause (λ p. refl)) (any c.in_ok-invariant.ensures) s))))
-    c.in_err-body.ensures c.from_residual-in_err-body.ensures.1
+    (after _ c.in_ok-span.ensures (next exact_guard (any c.in_ok-test.ensures) (form part_repeat make_repeat s)))) c.in_err-repeated.ensures
+    c.from_residual-in_err-repeated.ensures.1
 
 pub while_statement-returns : goal.while_statement-returns
 while_statement-returns t c =
-    rw while_view (while_spelled c.in_ok-span.ensures c.in_ok-test.ensures c.in_ok-invariant.ensures c.in_ok-body.ensures)
+    rw while_view
+    (while_spelled {b = part_of c.in_ok-repeated.repeated.body} c.in_ok-span.ensures c.in_ok-test.ensures c.in_ok-repeated.ensures.invariant c.in_ok-repeated.ensures.body)
+
+pub repeated-returns-in_err-invariant : goal.repeated-returns-in_err-invariant
+repeated-returns-in_err-invariant t c =
+    exit _ _ _ (λ s. form make_repeat part_repeat (first ends_block s)) c.in_err-invariant.ensures c.from_residual.ensures.1
+
+pub repeated-block-requires : goal.repeated-block-requires
+repeated-block-requires t c = let h = body_less c.in_ok-invariant.ensures in (omega arith, tt)
+
+pub repeated-returns-in_err-body : goal.repeated-returns-in_err-body
+repeated-returns-in_err-body t c =
+    exit _ _ _ (λ s. form make_repeat part_repeat (next (exact_clause (λ p. refl)) (any c.in_ok-invariant.ensures) s)) c.in_err-body.ensures
+    c.from_residual-in_err-body.ensures.1
+
+pub repeated-returns : goal.repeated-returns
+repeated-returns t c = repeat_spelled {b = part_of c.in_ok-body.body} c.in_ok-invariant.ensures c.in_ok-body.ensures

@@ -7,8 +7,14 @@ use Rattle.gh_parse.proofs.cursor.Parser.+statement.Given as goal
 abbrev pub decreases-if_statement : goal.decreases-if_statement
 decreases-if_statement l = 4 * length (tokens_of l.self.now.rest.now) + 1
 
+abbrev pub decreases-otherwise : goal.decreases-otherwise
+decreases-otherwise l = 4 * length (tokens_of l.self.now.rest.now) + 1
+
 abbrev pub decreases-while_statement : goal.decreases-while_statement
 decreases-while_statement l = 4 * length (tokens_of l.self.now.rest.now) + 1
+
+abbrev pub decreases-repeated : goal.decreases-repeated
+decreases-repeated l = 4 * length (tokens_of l.self.now.rest.now) + 1
 
 abbrev pub decreases-statement : goal.decreases-statement
 decreases-statement l = 4 * length (tokens_of l.self.now.rest.now) + 2
