@@ -2,6 +2,7 @@
 
 use crate::shape::Code;
 use crate::table::{at, put, small};
+use crate::trail::Trail;
 use gh_inst::naming::InstanceName;
 use std::alloc::{AllocError, Global};
 
@@ -122,6 +123,32 @@ impl Clauses {
             return &self.codes.as_slice()[start..end];
         }
         &[]
+    }
+
+    /// Puts a literal of a clause that isn't false, past its first two, in the place of its first or second one. Answers
+    /// that literal, if there is one.
+    pub fn replace(&mut self, number: u32, mine: usize, trail: &Trail) -> Option<Code> {
+        let codes = self.codes_mut(number);
+        for index in 2..codes.len() {
+            let code = at(codes, index, Code(u32::MAX));
+            if !trail.is_false(code) {
+                let gone = at(codes, mine, code);
+                put(codes, index, gone);
+                put(codes, mine, code);
+                return Some(code);
+            }
+        }
+        None
+    }
+
+    // The literals of a clause, which may change their places.
+    fn codes_mut(&mut self, number: u32) -> &mut [Code] {
+        let start = self.start(number);
+        let end = start.wrapping_add(self.len(number));
+        if start <= end && end <= self.codes.len() {
+            return &mut self.codes.as_mut_slice()[start..end];
+        }
+        &mut []
     }
 
     /// The literal at a place of the table.

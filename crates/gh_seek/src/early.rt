@@ -2,9 +2,9 @@
 //! atom false that stands in no clause is left out: such an atom is false in a structure anyway.
 
 use crate::clauses::Origin;
+use crate::propagator::Propagator;
 use crate::rows::{Plan, Plans, Row};
 use crate::shape::{Code, Kind, Parts};
-use crate::state::State;
 use crate::table::{at, bit, byte, put};
 use std::alloc::{AllocError, Global};
 
@@ -38,7 +38,7 @@ impl Least {
     }
 
     /// Finds the least terms anew. Answers the word of those terms whose least one is less than it was.
-    pub fn find(&mut self, state: &State) -> u32 {
+    pub fn find(&mut self, state: &Propagator) -> u32 {
         if self.changes == state.classes.changes() {
             return 0;
         }
@@ -83,7 +83,7 @@ impl Least {
 
 /// Adds the instances that the trail makes unit or false, up to a false one, and answers its number.
 pub(crate) fn add_early(
-    state: &mut State,
+    state: &mut Propagator,
     plans: &Plans,
     least: &mut Least,
 ) -> Result<Option<u32>, AllocError> {
@@ -107,7 +107,7 @@ pub(crate) fn add_early(
 }
 
 // Carries the literals that mention a term whose least one is less than it was.
-fn carry_anew(state: &mut State, least: &Least, term: u8) -> Result<(), AllocError> {
+fn carry_anew(state: &mut Propagator, least: &Least, term: u8) -> Result<(), AllocError> {
     let count = state.classes.mentions(term).len();
     for index in 0..count {
         let place = at(state.classes.mentions(term), index, u32::MAX) as usize;
@@ -121,7 +121,7 @@ fn carry_anew(state: &mut State, least: &Least, term: u8) -> Result<(), AllocErr
 
 // Gives the atom over least terms the truth of a literal's atom, by a lemma, but for false where that one stands in no
 // clause. Where it has the other truth, the classes find the clash.
-fn carry(state: &mut State, least: &Least, code: Code) -> Result<(), AllocError> {
+fn carry(state: &mut Propagator, least: &Least, code: Code) -> Result<(), AllocError> {
     let parts = state.shape.parts(code.atom());
     if parts.kind == Kind::Def || parts.kind == Kind::Eq && code.is_positive() {
         return Ok(());
@@ -146,7 +146,7 @@ fn carry(state: &mut State, least: &Least, code: Code) -> Result<(), AllocError>
 
 // Adds the instances that a literal of the trail makes unit or false.
 fn add_for(
-    state: &mut State,
+    state: &mut Propagator,
     plans: &Plans,
     least: &Least,
     code: Code,
@@ -171,7 +171,7 @@ fn add_for(
 
 // Adds the instances that a negated equality makes unit or false, read both ways.
 fn add_apart(
-    state: &mut State,
+    state: &mut Propagator,
     plans: &Plans,
     least: &Least,
     parts: Parts,
@@ -192,7 +192,7 @@ fn add_apart(
 
 // Adds the instances that a negated equality, read one way, makes unit or false, in each version of the window.
 fn add_in_window(
-    state: &mut State,
+    state: &mut Propagator,
     plans: &Plans,
     least: &Least,
     parts: Parts,
@@ -211,7 +211,7 @@ fn add_in_window(
 
 // Adds the instances that an atom's truth makes unit or false in its version.
 fn add_at(
-    state: &mut State,
+    state: &mut Propagator,
     plans: &Plans,
     least: &Least,
     parts: Parts,
@@ -232,7 +232,7 @@ fn add_at(
 
 // The terms for a plan's free variable over which at most one literal isn't false and none is true; a negative one that
 // is open is of an atom that stands in a clause.
-fn unit_terms(state: &State, plan: &Plan, mask: u32, version: u8, tuple: &[u8; 4]) -> u32 {
+fn unit_terms(state: &Propagator, plan: &Plan, mask: u32, version: u8, tuple: &[u8; 4]) -> u32 {
     let (mut open, mut all_false, mut one_left) = (mask, u32::MAX, 0);
     for read in plan.reads.as_slice() {
         let place = read.reading.place(version, tuple);
@@ -254,7 +254,7 @@ fn unit_terms(state: &State, plan: &Plan, mask: u32, version: u8, tuple: &[u8; 4
 
 // Adds the instances of a plan's row that are unit or false.
 fn add_planned(
-    state: &mut State,
+    state: &mut Propagator,
     plans: &Plans,
     plan: &Plan,
     mask: u32,
@@ -281,7 +281,7 @@ fn add_planned(
 
 // Whether an instance is unit or false where a plan's trigger is false: no other literal is true, and one at most is
 // open.
-fn is_due(state: &State, row: &Row, trigger: usize, version: u8, tuple: &[u8; 4]) -> bool {
+fn is_due(state: &Propagator, row: &Row, trigger: usize, version: u8, tuple: &[u8; 4]) -> bool {
     let mut open = None;
     for place in 0..row.patterns.len() {
         let pattern = &row.patterns[place];
@@ -289,6 +289,9 @@ fn is_due(state: &State, row: &Row, trigger: usize, version: u8, tuple: &[u8; 4]
             continue;
         }
         let code = pattern.code(&state.shape, version, tuple);
+        if state.trail.is_false(code) {
+            continue;
+        }
         if state.trail.is_true(code) || pattern.is_reflexive(tuple) {
             return false;
         }
@@ -305,7 +308,7 @@ fn is_due(state: &State, row: &Row, trigger: usize, version: u8, tuple: &[u8; 4]
 
 // Adds an instance of a plan's row, if it is unit or false. The number of a false one is answered.
 fn add_instance(
-    state: &mut State,
+    state: &mut Propagator,
     plans: &Plans,
     plan: &Plan,
     version: u8,

@@ -3,11 +3,12 @@
 //! ground clauses that this rests on stand in the next problem too, and nothing is searched for again.
 
 use crate::clauses::{Clauses, Origin};
+use crate::propagator::{Propagator, has};
 use crate::search::Searcher;
 use crate::section::{moved, needed_for};
 use crate::shape::{Code, Kind, Shape, spread};
-use crate::state::{State, has};
 use crate::table::{at, put, small};
+use gh_base::ground::Ground;
 use std::alloc::{AllocError, Global};
 
 /// What earlier searches found. Nothing is promised of it: it serves a search whose answer is checked. Where memory runs
@@ -184,7 +185,7 @@ struct Carrier {
 
 impl Carrier {
     // Nothing is carried yet.
-    fn new(alloc: Global, state: &State, past: &Past) -> Result<Carrier, AllocError> {
+    fn new(alloc: Global, state: &Propagator, past: &Past) -> Result<Carrier, AllocError> {
         Ok(Carrier {
             grounds: ground_lists(alloc, &state.clauses)?,
             definitions: definitions(alloc, &past.shape, &state.shape)?,
@@ -216,7 +217,12 @@ impl Carrier {
     }
 
     // Finds the new literals of a past clause. Answers whether there are all.
-    fn find_codes(&mut self, state: &State, past: &Past, number: u32) -> Result<bool, AllocError> {
+    fn find_codes(
+        &mut self,
+        state: &Propagator,
+        past: &Past,
+        number: u32,
+    ) -> Result<bool, AllocError> {
         self.codes.clear();
         for code in past.clauses.codes(number) {
             match self.code(&state.shape, &past.shape, *code) {
@@ -241,7 +247,7 @@ impl Carrier {
     }
 
     // Adds a past clause, if what shows it is there. Answers one more than its number, or 0.
-    fn add(&mut self, state: &mut State, past: &Past, number: u32) -> Result<u32, AllocError> {
+    fn add(&mut self, state: &mut Propagator, past: &Past, number: u32) -> Result<u32, AllocError> {
         if !self.find_codes(state, past, number)? {
             return Ok(0);
         }
@@ -272,10 +278,15 @@ impl Known {
         Known { past: None }
     }
 
-    /// Whether it may serve a search: it is over as many terms.
-    pub(crate) fn serves(&self, searcher: &Searcher) -> bool {
+    /// Whether it may serve a search for what decides ground clauses: it is over as many terms.
+    pub(crate) fn serves(&self, ground: &Ground) -> bool {
+        self.is_over(ground.sizes().terms as usize)
+    }
+
+    // Whether something is known, and it is over so many terms.
+    fn is_over(&self, terms: usize) -> bool {
         match &self.past {
-            Some(past) => past.shape.terms == searcher.state.shape.terms,
+            Some(past) => past.shape.terms == terms,
             None => false,
         }
     }
@@ -284,7 +295,7 @@ impl Known {
     /// clause that is false then, if there is one.
     pub(crate) fn tell(&mut self, searcher: &mut Searcher) -> Result<Option<u32>, AllocError> {
         let conflict = match &self.past {
-            Some(past) if self.serves(searcher) => past.tell(searcher)?,
+            Some(past) if self.is_over(searcher.state.shape.terms) => past.tell(searcher)?,
             _ => return Ok(None),
         };
         if searcher.shown.is_empty() {
@@ -300,7 +311,7 @@ impl Known {
         }
         let units = searcher.state.reasons()?;
         let Searcher { state, shown, .. } = searcher;
-        let State {
+        let Propagator {
             alloc,
             shape,
             clauses,
@@ -395,7 +406,7 @@ impl Past {
     }
 
     // Adds the clauses to a search. Answers for each one more than its number there, or 0.
-    fn carried(&self, state: &mut State) -> Result<Vec<u32>, AllocError> {
+    fn carried(&self, state: &mut Propagator) -> Result<Vec<u32>, AllocError> {
         let mut carrier = Carrier::new(state.alloc, state, self)?;
         for number in 0..self.clauses.count() {
             let added = carrier.add(state, self, small(number))?;
@@ -407,7 +418,7 @@ impl Past {
 
 // Has the clauses watched that some past ones became, each once. Answers one that is false, if there is one.
 fn watch_all(
-    state: &mut State,
+    state: &mut Propagator,
     numbers: &mut [u32],
     roots: &[u32],
 ) -> Result<Option<u32>, AllocError> {

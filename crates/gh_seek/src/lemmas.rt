@@ -153,6 +153,10 @@ fn try_all(searcher: &mut Searcher, mut all: Candidates) -> Result<Option<u32>, 
     }
     let mut wanted = Vec::new(searcher.state.alloc);
     for _ in 0..u32::MAX {
+        if !all.pop(&mut wanted)? {
+            break;
+        }
+        set_cases(searcher, wanted.as_slice())?;
         searcher.cut(0)?;
         match searcher.run(wanted.as_slice(), MOST)? {
             End::Refuted(conflict) => return Ok(Some(conflict)),
@@ -160,10 +164,6 @@ fn try_all(searcher: &mut Searcher, mut all: Candidates) -> Result<Option<u32>, 
             End::Shown => {}
             End::TooLong => {}
         }
-        if !all.pop(&mut wanted)? {
-            break;
-        }
-        set_cases(searcher, wanted.as_slice())?;
     }
     searcher.cases.clear();
     searcher.chain = None;

@@ -1,7 +1,7 @@
 //! What is learnt from a conflict: the clause of the first unique implication point, with the hints that show it.
 
+use crate::propagator::{Propagator, has};
 use crate::shape::Code;
-use crate::state::{State, has};
 use crate::table::{at, put, small};
 use crate::trail::NO_CLAUSE;
 use std::alloc::{AllocError, Global};
@@ -48,7 +48,7 @@ impl Lessons {
     }
 
     // Gives each literal of level 0 a clause of its own, in their order.
-    fn settle(&mut self, state: &mut State) -> Result<(), AllocError> {
+    fn settle(&mut self, state: &mut Propagator) -> Result<(), AllocError> {
         let end = state.trail.start(1);
         for place in self.settled..end {
             let code = state.trail.step(place);
@@ -59,7 +59,7 @@ impl Lessons {
     }
 
     // Gives a literal of level 0 a clause of its own, shown by its reason and the clauses of that one's other literals.
-    fn settle_one(&mut self, state: &mut State, code: Code) -> Result<(), AllocError> {
+    fn settle_one(&mut self, state: &mut Propagator, code: Code) -> Result<(), AllocError> {
         let reason = state.trail.reason(code.atom());
         if state.clauses.len(reason) <= 1 {
             return Ok(());
@@ -78,7 +78,7 @@ impl Lessons {
     }
 
     // Marks the atoms of a clause.
-    fn mark(&mut self, state: &mut State, number: u32) -> Result<(), AllocError> {
+    fn mark(&mut self, state: &mut Propagator, number: u32) -> Result<(), AllocError> {
         let level = state.trail.level();
         for index in 0..state.clauses.len(number) {
             let code = at(state.clauses.codes(number), index, Code(0));
@@ -108,7 +108,7 @@ impl Lessons {
 
     /// Learns from a false clause that has literals of the present level, which isn't 0. Answers the level at which the
     /// clause that is learnt is unit.
-    pub fn resolve(&mut self, state: &mut State, conflict: u32) -> Result<u32, AllocError> {
+    pub fn resolve(&mut self, state: &mut Propagator, conflict: u32) -> Result<u32, AllocError> {
         self.settle(state)?;
         self.round = self.round.wrapping_add(1);
         self.waiting = 0;
@@ -137,7 +137,7 @@ impl Lessons {
     }
 
     // Whether a literal of the lesson follows from the others: its reason has no further ones but of level 0.
-    fn is_spared(&self, state: &State, code: Code) -> bool {
+    fn is_spared(&self, state: &Propagator, code: Code) -> bool {
         let reason = state.trail.reason(code.atom());
         if reason == NO_CLAUSE {
             return false;
@@ -152,7 +152,7 @@ impl Lessons {
     }
 
     // Notes the clauses of a reason's literals of level 0.
-    fn note_units(&mut self, state: &State, reason: u32) -> Result<(), AllocError> {
+    fn note_units(&mut self, state: &Propagator, reason: u32) -> Result<(), AllocError> {
         for other in state.clauses.codes(reason) {
             let atom = other.atom();
             if state.trail.level_of(atom) == 0 && !self.is_marked(atom) {
@@ -164,7 +164,7 @@ impl Lessons {
     }
 
     // Notes an atom that is spared, in the order of the trail.
-    fn note_spared(&mut self, state: &State, atom: u32) -> Result<(), AllocError> {
+    fn note_spared(&mut self, state: &Propagator, atom: u32) -> Result<(), AllocError> {
         let place = state.trail.place_of(atom as usize);
         let mut spot = self.spared.len();
         self.spared.push(atom)?;
@@ -183,7 +183,7 @@ impl Lessons {
 
     // Makes the lesson at an implication point, from the clauses in the order in which they were resolved. Answers its
     // level.
-    fn lesson(&mut self, state: &State, point: Code) -> Result<u32, AllocError> {
+    fn lesson(&mut self, state: &Propagator, point: Code) -> Result<u32, AllocError> {
         let mut level = 0;
         self.codes.clear();
         self.spared.clear();
@@ -211,7 +211,11 @@ impl Lessons {
 
     /// Learns that one of some literals is true, where the opposites of others make one so. Answers the clause that says
     /// it, unless it is so at level 0.
-    pub fn show(&mut self, state: &mut State, wanted: &[Code]) -> Result<Option<u32>, AllocError> {
+    pub fn show(
+        &mut self,
+        state: &mut Propagator,
+        wanted: &[Code],
+    ) -> Result<Option<u32>, AllocError> {
         let Some(shown) = wanted.iter().find(|code| state.trail.is_true(**code)) else {
             return Ok(None);
         };
@@ -242,7 +246,7 @@ impl Lessons {
     }
 
     // Gathers the reasons of all that marked literals are reached from, the latest first.
-    fn trace(&mut self, state: &State) -> Result<(), AllocError> {
+    fn trace(&mut self, state: &Propagator) -> Result<(), AllocError> {
         self.reasons.clear();
         let length = state.trail.steps.len();
         for back in 0..length {
@@ -257,7 +261,7 @@ impl Lessons {
     }
 
     // Marks the atoms of a clause whose literals all have truths.
-    fn stamp(&mut self, state: &State, number: u32) {
+    fn stamp(&mut self, state: &Propagator, number: u32) {
         for code in state.clauses.codes(number) {
             put(self.stamps.as_mut_slice(), code.atom(), self.round);
         }
@@ -265,7 +269,11 @@ impl Lessons {
 
     /// The hints that show the empty clause, where a clause is false at level 0: the reasons of all that it is reached
     /// from, and itself.
-    pub fn refutation(&mut self, state: &State, conflict: u32) -> Result<Vec<u32>, AllocError> {
+    pub fn refutation(
+        &mut self,
+        state: &Propagator,
+        conflict: u32,
+    ) -> Result<Vec<u32>, AllocError> {
         self.round = self.round.wrapping_add(1);
         self.stamp(state, conflict);
         self.trace(state)?;

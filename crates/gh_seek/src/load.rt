@@ -2,8 +2,8 @@
 //! where the others don't ask for it: no clause has the opposite of what it tells.
 
 use crate::clauses::Origin;
+use crate::propagator::Propagator;
 use crate::shape::{Code, Shape};
-use crate::state::State;
 use crate::table::{at, put, small};
 use gh_base::clause::Clause;
 use gh_base::ground::Ground;
@@ -23,10 +23,11 @@ struct Table {
 impl Table {
     // All clauses. Notes the latest version of which each definition speaks.
     fn new(alloc: Global, shape: &mut Shape, ground: &Ground) -> Result<Table, AllocError> {
+        let count = ground.count() as usize;
         let mut table = Table {
-            codes: Vec::new(alloc),
-            ends: Vec::new(alloc),
-            greatest: Vec::new(alloc),
+            codes: Vec::with_capacity(alloc, count.wrapping_mul(3))?,
+            ends: Vec::with_capacity(alloc, count)?,
+            greatest: Vec::with_capacity(alloc, count)?,
             last: vec![in alloc; 0; shape.count.wrapping_mul(2)]?,
         };
         for number in 0..ground.count() {
@@ -146,13 +147,13 @@ pub(crate) fn note_keys(
 /// Adds the clauses of a ground problem that are asked for, up to a number, and has their atoms decided.
 pub(crate) fn load(
     alloc: Global,
-    state: &mut State,
+    state: &mut Propagator,
     ground: &Ground,
     most: u32,
 ) -> Result<(), AllocError> {
     let table = Table::new(alloc, &mut state.shape, ground)?;
     let kept = asked_for(alloc, &state.shape, &table)?;
-    state.clauses.reserve(table.ends.len(), table.codes.len())?;
+    state.reserve(table.ends.len(), table.codes.len())?;
     for number in 0..table.ends.len().min(most as usize) {
         if !at(kept.as_slice(), number, true) {
             continue;

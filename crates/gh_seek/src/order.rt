@@ -16,8 +16,9 @@ const SMALLER_BY: u32 = 24;
 // No heap is deeper.
 const DEPTH: u32 = 40;
 
-/// The atoms that stand in clauses, by their scores. Those that stood in a clause from the start and have no score are
-/// a row, which a place goes along. All others of the window that may have no truth are in a heap.
+/// The atoms that stand in clauses, by their scores. Those of the window that stood in a clause from the start are a
+/// row; a place goes along those of them that have no score. All others of the window that may have no truth are in a
+/// heap.
 #[derive(Debug, Drop)]
 pub(crate) struct Order {
     // By atom: its score, one more than its spot in the heap, whether it stands in a clause, and one more than its
@@ -28,7 +29,9 @@ pub(crate) struct Order {
     places: Vec<u32>,
     // The words of the atoms that stand in a clause.
     words: Words,
-    // Before the place `next` of the row no atom of the window is open that has no score and isn't in the heap.
+    // The atoms that stood in a clause from the start.
+    noted: Vec<u32>,
+    // Before the place `next` of the row no atom is open that has no score and isn't in the heap.
     row: Vec<u32>,
     next: usize,
     heap: Vec<u32>,
@@ -47,6 +50,7 @@ impl Order {
             needed: vec![in alloc; false; atoms]?,
             places: vec![in alloc; 0; atoms]?,
             words: Words::new(alloc, layout)?,
+            noted: Vec::new(alloc),
             row: Vec::new(alloc),
             next: 0,
             heap: Vec::new(alloc),
@@ -77,9 +81,9 @@ impl Order {
             put(self.spots.as_mut_slice(), atom as usize, 0);
         }
         self.heap.clear();
-        self.next = 0;
-        for index in 0..self.row.len() {
-            let atom = at(self.row.as_slice(), index, 0);
+        self.set_row(shape)?;
+        for index in 0..self.noted.len() {
+            let atom = at(self.noted.as_slice(), index, 0);
             self.offer(shape, atom as usize)?;
         }
         for index in 0..self.entered.len() {
@@ -89,22 +93,37 @@ impl Order {
         Ok(())
     }
 
+    // Makes the row of the atoms that stood in clauses from the start and are in the window.
+    fn set_row(&mut self, shape: &Shape) -> Result<(), AllocError> {
+        self.row.clear();
+        self.next = 0;
+        for index in 0..self.noted.len() {
+            let number = at(self.noted.as_slice(), index, 0);
+            let mut place = 0;
+            if self.is_inside(shape, number as usize) {
+                self.row.push(number)?;
+                place = small(self.row.len());
+            }
+            put(self.places.as_mut_slice(), number as usize, place);
+        }
+        Ok(())
+    }
+
     /// Notes that an atom stands in a clause from the start.
     pub fn note(&mut self, atom: usize) {
         put(self.needed.as_mut_slice(), atom, true);
     }
 
-    /// Makes the row of the atoms that stand in clauses from the start.
+    /// Gathers the atoms that stand in clauses from the start.
     pub fn fill(&mut self, shape: &Shape) -> Result<(), AllocError> {
         for rank in 0..shape.count {
             let atom = shape.rank(rank);
             if at(self.needed.as_slice(), atom, false) {
                 self.words.turn(shape.parts(atom));
-                self.row.push(small(atom))?;
-                put(self.places.as_mut_slice(), atom, small(self.row.len()));
+                self.noted.push(small(atom))?;
             }
         }
-        Ok(())
+        self.set_row(shape)
     }
 
     /// Notes that an atom stands in a clause.
@@ -151,13 +170,13 @@ impl Order {
         Ok(())
     }
 
-    // The next atom of the row in the window that has no truth and no score.
-    fn next_of_row(&mut self, shape: &Shape, trail: &Trail) -> Option<u32> {
+    // The next atom of the row that has no truth and no score.
+    fn next_of_row(&mut self, trail: &Trail) -> Option<u32> {
         for _ in 0..u32::MAX {
             let number = *self.row.get(self.next)?;
             let atom = number as usize;
             let is_open = trail.is_open(Code::new(atom, true));
-            if is_open && self.score(atom) == 0 && self.is_inside(shape, atom) {
+            if is_open && self.score(atom) == 0 {
                 return Some(number);
             }
             self.next = self.next.wrapping_add(1);
@@ -168,7 +187,7 @@ impl Order {
     /// Takes the atom that goes first.
     pub fn take(&mut self, shape: &Shape, trail: &Trail) -> Option<usize> {
         let first = at(self.heap.as_slice(), 0, u32::MAX);
-        if let Some(atom) = self.next_of_row(shape, trail) {
+        if let Some(atom) = self.next_of_row(trail) {
             if self.heap.is_empty() || self.is_before(shape, atom, first) {
                 self.next = self.next.wrapping_add(1);
                 return Some(atom as usize);

@@ -1,7 +1,7 @@
 //! The axiom rows as patterns, and how a row is read when one of its literals becomes false.
 
+use crate::propagator::has;
 use crate::shape::{Code, Kind, Parts, Shape};
-use crate::state::has;
 use crate::table::{at, byte};
 use crate::words::{Layout, Reading};
 use gh_base::atom::{Atom, Lit, Term};

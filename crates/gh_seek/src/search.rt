@@ -4,9 +4,9 @@ use crate::clauses::Origin;
 use crate::early::{Least, add_early};
 use crate::lesson::Lessons;
 use crate::load::load;
+use crate::propagator::{Added, Propagator, distinct};
 use crate::rows::{Plans, Row};
 use crate::shape::{Code, Parts};
-use crate::state::{Added, State, distinct};
 use crate::structure::{Made, Missing, add_false};
 use crate::table::byte;
 use gh_base::ground::Ground;
@@ -28,10 +28,10 @@ pub(crate) enum End {
     TooLong,
 }
 
-/// A state with what searches it.
+/// A propagator with what searches over it.
 #[derive(Debug, Drop)]
 pub(crate) struct Searcher {
-    pub state: State,
+    pub state: Propagator,
     pub least: Least,
     pub lessons: Lessons,
     /// Literals whose opposites are decided after those of the wanted ones and the chain.
@@ -59,7 +59,7 @@ fn cut_level(present: u32, level: u32, stride: u32) -> u32 {
 impl Searcher {
     /// A search over the clauses of a ground problem up to a number, and the reflexive instances.
     pub fn new(alloc: Global, ground: &Ground, most: u32) -> Result<Searcher, AllocError> {
-        let mut state = State::new(alloc, ground.sizes())?;
+        let mut state = Propagator::new(alloc, ground.sizes())?;
         load(alloc, &mut state, ground, most)?;
         let plans = Plans::new(alloc, &state.layout)?;
         add_reflexive(&mut state, &plans)?;
@@ -295,7 +295,7 @@ impl Searcher {
 }
 
 // Adds the instances of rows with one variable, in all versions: nothing makes these unit.
-fn add_reflexive(state: &mut State, plans: &Plans) -> Result<(), AllocError> {
+fn add_reflexive(state: &mut Propagator, plans: &Plans) -> Result<(), AllocError> {
     for row in plans.rows.as_slice() {
         if row.arity == 1 {
             for version in 0..state.shape.versions {
@@ -307,7 +307,7 @@ fn add_reflexive(state: &mut State, plans: &Plans) -> Result<(), AllocError> {
 }
 
 // Adds the instances of a row with one variable.
-fn add_row_at(state: &mut State, row: &Row, version: u8) -> Result<(), AllocError> {
+fn add_row_at(state: &mut Propagator, row: &Row, version: u8) -> Result<(), AllocError> {
     for term in 0..state.shape.terms {
         let tuple = [byte(term), 0, 0, 0];
         let (few, name) = (

@@ -23,24 +23,21 @@ pub enum Found {
 
 // So many conflicts for each term come before lemmas are looked for: most searches need fewer, and over many terms
 // there are many lemmas.
-const FOR_TERMS: u64 = 40;
+const FOR_TERM: u64 = 40;
 
-// So many times fewer come where something is known that may serve.
-const FEWER: u64 = 4;
+// So many come where something is known that may serve, and so many after it is told.
+const BEFORE_TOLD: u64 = 3;
+
+const AFTER_TOLD: u64 = 10;
 
 // No more terms have bits in a word, and for no more atoms tables are made.
 const MOST_TERMS: u8 = 32;
 
 const MOST_ATOMS: usize = 8000000;
 
-// How many conflicts come before lemmas are looked for.
-fn conflicts_ahead(searcher: &Searcher, known: &Known) -> u64 {
-    let most = FOR_TERMS.saturating_mul(searcher.state.shape.terms as u64);
-    if known.serves(searcher) {
-        most / FEWER
-    } else {
-        most
-    }
+// So many conflicts for each term of a search.
+fn for_each_term(searcher: &Searcher, conflicts: u64) -> u64 {
+    conflicts.saturating_mul(searcher.state.shape.terms as u64)
 }
 
 // Searches for a while over all clauses. Answers nothing where it takes longer.
@@ -49,7 +46,8 @@ fn begin(alloc: Global, ground: &Ground, known: &mut Known) -> Result<Option<Fou
     let end = match searcher.false_clause() {
         Some(number) => End::Refuted(number),
         None => {
-            let most = conflicts_ahead(&searcher, known);
+            let serves = known.serves(ground);
+            let most = for_each_term(&searcher, if serves { BEFORE_TOLD } else { FOR_TERM });
             searcher.run(&[], most)?
         }
     };
@@ -57,6 +55,31 @@ fn begin(alloc: Global, ground: &Ground, known: &mut Known) -> Result<Option<Fou
         return Ok(None);
     }
     Ok(Some(outcome(alloc, searcher, end, known)?))
+}
+
+// Searches for a while over all clauses and what is known. Answers nothing where it takes longer, or nothing is known.
+fn recall(alloc: Global, ground: &Ground, known: &mut Known) -> Result<Option<Found>, AllocError> {
+    if !known.serves(ground) {
+        return Ok(None);
+    }
+    let mut searcher = Searcher::new(alloc, ground, ground.count())?;
+    note_keys(alloc, &mut searcher.state.shape, ground)?;
+    let end = match known.tell(&mut searcher)? {
+        Some(conflict) => End::Refuted(conflict),
+        None => {
+            let most = for_each_term(&searcher, AFTER_TOLD);
+            searcher.run(&[], most)?
+        }
+    };
+    match end {
+        End::Refuted(conflict) => {
+            let section = section_of(alloc, &mut searcher, conflict)?;
+            Ok(Some(Found::Refutation(section)))
+        }
+        End::Found(_made) => Ok(Some(Found::Truths(truths(alloc, &searcher)?))),
+        End::Shown => Ok(None),
+        End::TooLong => Ok(None),
+    }
 }
 
 // Searches for lemmas first, over all clauses but the last one: of a condition that one says that its check fails, and
@@ -116,6 +139,9 @@ pub fn seek(alloc: Global, ground: &Ground, known: &mut Known) -> Result<Found, 
         return Ok(Found::Nothing);
     }
     if let Some(found) = begin(alloc, ground, known)? {
+        return Ok(found);
+    }
+    if let Some(found) = recall(alloc, ground, known)? {
         return Ok(found);
     }
     let mut searcher = Searcher::new(alloc, ground, ground.count().saturating_sub(1))?;

@@ -2,9 +2,9 @@
 
 use crate::clauses::Origin;
 use crate::early::Least;
+use crate::propagator::Propagator;
 use crate::rows::{Few, Plan, Plans, Row};
 use crate::shape::{Code, Kind, Parts, Shape};
-use crate::state::State;
 use crate::table::byte;
 use crate::words::Words;
 use gh_inst::naming::InstanceName;
@@ -28,7 +28,7 @@ struct False {
 
 impl Made {
     /// The structure of a trail.
-    pub fn new(state: &State, least: &Least) -> Result<Made, AllocError> {
+    pub fn new(state: &Propagator, least: &Least) -> Result<Made, AllocError> {
         let mut words = Words::new(state.alloc, state.layout)?;
         for code in state.trail.steps.as_slice() {
             let parts = state.shape.parts(code.atom());
@@ -72,7 +72,13 @@ impl Made {
 }
 
 // The literals of an instance that is false in the structure, if it is.
-fn false_codes(state: &State, made: &Made, row: &Row, version: u8, tuple: &[u8; 4]) -> Option<Few> {
+fn false_codes(
+    state: &Propagator,
+    made: &Made,
+    row: &Row,
+    version: u8,
+    tuple: &[u8; 4],
+) -> Option<Few> {
     let mut few = Few::new();
     for pattern in row.patterns.as_slice() {
         let parts = pattern.parts(version, tuple);
@@ -95,7 +101,7 @@ struct Open {
 
 // Gathers the false instances of a row.
 fn gather_row(
-    state: &State,
+    state: &Propagator,
     made: &Made,
     row: &Row,
     open: Open,
@@ -142,7 +148,7 @@ fn open_of(made: &Made, plan: &Plan, mask: u32, parts: Parts) -> Option<Open> {
 
 // Gathers the false instances whose first negative literal is over an atom that is true.
 fn gather_for(
-    state: &State,
+    state: &Propagator,
     plans: &Plans,
     made: &Made,
     mask: u32,
@@ -165,7 +171,7 @@ fn gather_for(
 
 // The instances that are false in the structure, up to so many.
 fn false_instances(
-    state: &State,
+    state: &Propagator,
     plans: &Plans,
     least: &Least,
     made: &Made,
@@ -197,7 +203,7 @@ pub(crate) enum Missing {
 
 /// Adds instances that are false in the structure, up to one that is false under the trail.
 pub(crate) fn add_false(
-    state: &mut State,
+    state: &mut Propagator,
     plans: &Plans,
     least: &Least,
     made: &Made,

@@ -18,12 +18,12 @@ pub(crate) enum Visit {
     Conflict,
 }
 
-/// A node of a list: the next one, and another literal of the clause, or the only other one.
+/// A node of a list: the next one, another literal of the clause, and whether that is the only other one.
 #[derive(Clone, Copy, Debug)]
-struct Node {
-    next: u32,
-    other: Code,
-    is_pair: bool,
+pub(crate) struct Node {
+    pub next: u32,
+    pub other: Code,
+    pub is_pair: bool,
 }
 
 // What stands at the place of a node that isn't there.
@@ -50,6 +50,11 @@ impl Watches {
         })
     }
 
+    /// Makes room for the nodes of so many more clauses.
+    pub fn reserve(&mut self, clauses: usize) -> Result<(), AllocError> {
+        self.nodes.reserve(clauses.wrapping_mul(2))
+    }
+
     /// Makes the two nodes of the next clause, which has so many literals. They stand in no list.
     pub fn enter(&mut self, length: usize) -> Result<(), AllocError> {
         for _ in 0..2 {
@@ -65,19 +70,9 @@ impl Watches {
         at(self.first.as_slice(), code.place(), NO_NODE)
     }
 
-    /// The node after one.
-    pub fn next(&self, node: u32) -> u32 {
-        at(self.nodes.as_slice(), node as usize, NOTHING).next
-    }
-
-    /// Another literal of a node's clause.
-    pub fn other(&self, node: u32) -> Code {
-        at(self.nodes.as_slice(), node as usize, NOTHING).other
-    }
-
-    /// Whether a node's clause has two literals alone.
-    pub fn is_pair(&self, node: u32) -> bool {
-        at(self.nodes.as_slice(), node as usize, NOTHING).is_pair
+    /// The node of a number.
+    pub fn node(&self, number: u32) -> Node {
+        at(self.nodes.as_slice(), number as usize, NOTHING)
     }
 
     /// Gives a node another literal of its clause.
@@ -107,9 +102,8 @@ impl Watches {
         put(self.first.as_mut_slice(), code.place(), node);
     }
 
-    /// Takes the node after one, or the first node, out of a literal's list.
-    pub fn unlink(&mut self, code: Code, before: u32, node: u32) {
-        let next = self.next(node);
+    /// Takes what stands between a node, or a list's front, and a next one out of a literal's list.
+    pub fn unlink(&mut self, code: Code, before: u32, next: u32) {
         if before == NO_NODE {
             put(self.first.as_mut_slice(), code.place(), next);
         } else {

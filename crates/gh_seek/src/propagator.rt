@@ -1,4 +1,4 @@
-//! The state of a search: clauses, the trail with what is kept of it, and unit propagation.
+//! Propagation: clauses, the trail with what is kept of it, and what follows by units.
 
 use crate::classes::Classes;
 use crate::clauses::{Clauses, Origin};
@@ -6,7 +6,7 @@ use crate::order::Order;
 use crate::shape::{Code, Shape};
 use crate::table::{at, put, small};
 use crate::trail::{NO_CLAUSE, Trail};
-use crate::watching::{NO_NODE, Visit, Watches};
+use crate::watching::{NO_NODE, Node, Visit, Watches};
 use crate::words::{Layout, Words};
 use gh_base::sizes::Sizes;
 use std::alloc::{AllocError, Global};
@@ -27,7 +27,7 @@ pub(crate) struct Added {
 
 /// Clauses, the trail, and what is kept of it.
 #[derive(Debug, Drop)]
-pub(crate) struct State {
+pub(crate) struct Propagator {
     pub alloc: Global,
     pub shape: Shape,
     pub layout: Layout,
@@ -46,15 +46,15 @@ pub(crate) struct State {
     pub conflicts: u64,
 }
 
-impl State {
+impl Propagator {
     /// No clause, and nothing on the trail.
-    pub fn new(alloc: Global, sizes: Sizes) -> Result<State, AllocError> {
+    pub fn new(alloc: Global, sizes: Sizes) -> Result<Propagator, AllocError> {
         let shape = Shape::new(alloc, sizes)?;
         let layout = Layout::new(shape.terms, shape.versions);
         let atoms = shape.count;
         let mut yes = Words::new(alloc, layout)?;
         yes.take_reflexive();
-        Ok(State {
+        Ok(Propagator {
             alloc,
             clauses: Clauses::new(alloc),
             trail: Trail::new(alloc, atoms)?,
@@ -183,6 +183,12 @@ impl State {
         }
     }
 
+    /// Makes room for so many more clauses, with so many literals in all.
+    pub fn reserve(&mut self, clauses: usize, literals: usize) -> Result<(), AllocError> {
+        self.clauses.reserve(clauses, literals)?;
+        self.watches.reserve(clauses)
+    }
+
     /// Adds a clause whose literals all differ. Where it is unit, its literal becomes true.
     pub fn add(&mut self, codes: &[Code], origin: Origin) -> Result<Added, AllocError> {
         let number = self.clauses.push(codes, origin)?;
@@ -285,64 +291,53 @@ impl State {
     // Visits the clauses that watch a literal which became false.
     fn visit_all(&mut self, gone: Code) -> Result<Option<u32>, AllocError> {
         let mut before = NO_NODE;
-        let mut node = self.watches.first(gone);
+        let mut number = self.watches.first(gone);
         for _ in 0..u32::MAX {
-            if node == NO_NODE {
+            if number == NO_NODE {
                 break;
             }
-            let next = self.watches.next(node);
-            match self.visit(node)? {
-                Visit::Kept => before = node,
-                Visit::Moved(code) => {
-                    self.watches.unlink(gone, before, node);
-                    self.watches.link(Code(code), node);
-                }
-                Visit::Conflict => return Ok(Some(node / 2)),
+            let node = self.watches.node(number);
+            if self.trail.is_true(node.other) {
+                before = number;
+                number = node.next;
+                continue;
             }
-            node = next;
+            match self.visit(number, node)? {
+                Visit::Kept => before = number,
+                Visit::Moved(code) => {
+                    self.watches.unlink(gone, before, node.next);
+                    self.watches.link(Code(code), number);
+                }
+                Visit::Conflict => return Ok(Some(number / 2)),
+            }
+            number = node.next;
         }
         Ok(None)
     }
 
-    // Visits a clause one of whose watched literals became false.
-    fn visit(&mut self, node: u32) -> Result<Visit, AllocError> {
-        let mut other = self.watches.other(node);
-        if self.trail.is_true(other) {
-            return Ok(Visit::Kept);
-        }
-        let number = node / 2;
-        if !self.watches.is_pair(node) {
-            let start = self.clauses.start(number);
-            let place = (node % 2) as usize;
-            other = self.clauses.code_at(start.wrapping_add(1 - place));
-            self.watches.set_other(node, other);
+    // Visits the clause of a node, one of whose watched literals became false, and whose noted literal isn't true.
+    fn visit(&mut self, number: u32, node: Node) -> Result<Visit, AllocError> {
+        let (clause, mine) = (number / 2, (number % 2) as usize);
+        let mut other = node.other;
+        if !node.is_pair {
+            other = self
+                .clauses
+                .code_at(self.clauses.start(clause).wrapping_add(1 - mine));
+            self.watches.set_other(number, other);
             if self.trail.is_true(other) {
                 return Ok(Visit::Kept);
             }
-            if let Some(found) = self.replacement(number, start) {
-                let mine = start.wrapping_add(place);
-                self.clauses.swap(mine, found);
-                return Ok(Visit::Moved(self.clauses.code_at(mine).0));
+            if let Some(found) = self.clauses.replace(clause, mine, &self.trail) {
+                return Ok(Visit::Moved(found.0));
             }
         }
         if self.trail.is_false(other) {
             return Ok(Visit::Conflict);
         }
         if self.trail.is_open(other) {
-            self.put(other, number)?;
+            self.put(other, clause)?;
         }
         Ok(Visit::Kept)
-    }
-
-    // The place of a literal of a clause, past the watched ones, that isn't false.
-    fn replacement(&self, number: u32, start: usize) -> Option<usize> {
-        let codes = self.clauses.codes(number);
-        for index in 2..codes.len() {
-            if !self.trail.is_false(codes[index]) {
-                return Some(start.wrapping_add(index));
-            }
-        }
-        None
     }
 
     /// Tells the classes what the trail has, and adds the clause of a clash as a lemma.
