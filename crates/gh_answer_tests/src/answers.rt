@@ -60,6 +60,33 @@ pub(crate) fn reports(
     answers(alloc, &[mode, "row"], b"", program, status, written)
 }
 
+// An answer: the words, what `text` and `row` hold, how the run ends, and what it writes.
+#[derive(Clone, Copy)]
+pub(crate) struct Case<'a> {
+    pub(crate) words: &'a [&'a str],
+    pub(crate) text: &'a [u8],
+    pub(crate) row: &'a [u8],
+    pub(crate) status: Status,
+    pub(crate) written: &'a [u8],
+}
+
+// The first case with another answer.
+pub(crate) fn wrong_case(alloc: Global, cases: &[Case<'_>]) -> Result<Option<usize>, AllocError> {
+    for (number, case) in cases.iter().enumerate() {
+        if !answers(
+            alloc,
+            case.words,
+            case.text,
+            case.row,
+            case.status,
+            case.written,
+        )? {
+            return Ok(Some(number));
+        }
+    }
+    Ok(None)
+}
+
 // Answers that differ in two places: each row has what comes last in its file, and what stands in the middle of
 // what is written.
 #[derive(Clone, Copy)]
@@ -73,14 +100,37 @@ pub(crate) struct Table<'a> {
     pub(crate) rows: &'a [(&'a [u8], &'a [u8])],
 }
 
+// Whether a row of a table has its answer.
+fn is_row(
+    alloc: Global,
+    table: &Table<'_>,
+    last: &[u8],
+    middle: &[u8],
+) -> Result<bool, AllocError> {
+    let file = joined(alloc, table.head, last, b"")?;
+    let line = joined(alloc, table.before, middle, table.after)?;
+    let (file, line) = (file.as_slice(), line.as_slice());
+    answers(alloc, table.words, table.text, file, table.status, line)
+}
+
 // The first row of a table with another answer.
-pub(crate) fn wrong_row(alloc: Global, table: &Table<'_>) -> Result<Option<usize>, AllocError> {
+fn wrong_row(alloc: Global, table: &Table<'_>) -> Result<Option<usize>, AllocError> {
     for (number, row) in table.rows.iter().enumerate() {
-        let file = joined(alloc, table.head, row.0, b"")?;
-        let line = joined(alloc, table.before, row.1, table.after)?;
-        let (file, line) = (file.as_slice(), line.as_slice());
-        if !answers(alloc, table.words, table.text, file, table.status, line)? {
+        if !is_row(alloc, table, row.0, row.1)? {
             return Ok(Some(number));
+        }
+    }
+    Ok(None)
+}
+
+// The first of some tables that has another answer, and its row.
+pub(crate) fn wrong_table(
+    alloc: Global,
+    tables: &[Table<'_>],
+) -> Result<Option<(usize, usize)>, AllocError> {
+    for (number, table) in tables.iter().enumerate() {
+        if let Some(row) = wrong_row(alloc, table)? {
+            return Ok(Some((number, row)));
         }
     }
     Ok(None)

@@ -1,6 +1,6 @@
 //! Drawing files that are replayed.
 
-use crate::answers::{Table, wrong_row};
+use crate::answers::{Case, Table, wrong_case, wrong_table};
 use gh_texts::{DROP, DROPPED, OUTER, REUSE};
 use gh_top::status::Status;
 use std::alloc::AllocError;
@@ -58,32 +58,32 @@ heap 1->0
 end
 ";
 
-const OF_DROP: Table<'static> = Table {
+const OF_DROP: Case<'static> = Case {
     words: &["replay", "text", "row"],
     text: DROP,
-    head: b"",
+    row: DROPPED,
     status: Status::Refuted,
-    before: b"replayed: condition ",
-    after: b" is refuted\n",
-    rows: &[(DROPPED, b"2 of 2")],
+    written: b"replayed: condition 2 of 2 is refuted\n",
 };
+
+const REPLAYED: &[Case<'static>] = &[
+    OF_DROP,
+    Case {
+        text: OUTER,
+        row: OUTER_DRAWING,
+        written: b"replayed: condition 3 of 3 is refuted\n",
+        ..OF_DROP
+    },
+    Case {
+        text: REUSE,
+        row: REUSE_DRAWING,
+        ..OF_DROP
+    },
+];
 
 #[test]
 fn replayed_drawings(rt: HostRuntime) -> Result<(), AllocError> {
-    let alloc = rt.alloc();
-    assert_eq!(rt; wrong_row(alloc, &OF_DROP)?, None);
-    let of_outer = Table {
-        text: OUTER,
-        rows: &[(OUTER_DRAWING, b"3 of 3")],
-        ..OF_DROP
-    };
-    assert_eq!(rt; wrong_row(alloc, &of_outer)?, None);
-    let of_reuse = Table {
-        text: REUSE,
-        rows: &[(REUSE_DRAWING, b"2 of 2")],
-        ..OF_DROP
-    };
-    assert_eq!(rt; wrong_row(alloc, &of_reuse)?, None);
+    assert!(rt; wrong_case(rt.alloc(), REPLAYED)? == None);
     Ok(())
 }
 
@@ -139,22 +139,10 @@ const OTHERS: Table<'static> = Table {
     ..DAMAGED
 };
 
-#[test]
-fn damaged_drawings(rt: HostRuntime) -> Result<(), AllocError> {
-    assert_eq!(rt; wrong_row(rt.alloc(), &DAMAGED)?, None);
-    assert_eq!(rt; wrong_row(rt.alloc(), &OTHERS)?, None);
-    Ok(())
-}
+const TABLES: &[Table] = &[DAMAGED, OTHERS];
 
 #[test]
-fn long_files(rt: HostRuntime) -> Result<(), AllocError> {
-    let alloc = rt.alloc();
-    let long = vec![in alloc; b'\n'; 4_194_305]?;
-    let most = &long.as_slice()[1..];
-    let of_lines = Table {
-        rows: &[(long.as_slice(), b" TooLong"), (most, b"")],
-        ..OTHERS
-    };
-    assert_eq!(rt; wrong_row(alloc, &of_lines)?, None);
+fn damaged_drawings(rt: HostRuntime) -> Result<(), AllocError> {
+    assert!(rt; wrong_table(rt.alloc(), TABLES)? == None);
     Ok(())
 }

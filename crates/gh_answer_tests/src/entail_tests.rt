@@ -1,6 +1,6 @@
 //! What `entail` answers for worked questions.
 
-use crate::answers::{answer, reports};
+use crate::answers::{Case, answer, wrong_case};
 use gh_top::status::Status;
 use std::alloc::{AllocError, Global};
 
@@ -17,20 +17,6 @@ store x=0
 heap
 end
 ";
-
-#[test]
-fn no_cell_at_null(rt: HostRuntime) -> Result<(), AllocError> {
-    assert!(rt;
-        reports(
-            rt.alloc(),
-            "entail",
-            NOWHERE,
-            Status::Refuted,
-            NOWHERE_REPORT
-        )?
-    );
-    Ok(())
-}
 
 // Whether the answer to a question over w, x, y and z is Verified; none for another answer, or for
 // one whose first line says otherwise.
@@ -55,8 +41,8 @@ fn wrong_question(alloc: Global, rows: &[(&[u8], bool)]) -> Result<Option<usize>
     Ok(None)
 }
 
-// Segments in a row are one segment where the end lies outside the first.
-const COMPOSED: [(&[u8], bool); 5] = [
+const QUESTIONS: &[(&[u8], bool)] = &[
+    // segments in a row are one segment where the end lies outside the first
     (
         b"{ lseg(x, y) &*& lseg(y, null) } ensures { lseg(x, null) }",
         true,
@@ -77,10 +63,7 @@ const COMPOSED: [(&[u8], bool); 5] = [
         b"{ lseg(x, null) } && { lseg(y, null) } ensures { emp } || { lseg(x, y) &*& lseg(y, null) }",
         true,
     ),
-];
-
-// A cell at the front or at the end.
-const UNFOLDED: [(&[u8], bool); 5] = [
+    // a cell at the front or at the end
     (
         b"{ x.next |-> y &*& lseg(y, null) } ensures { lseg(x, null) }",
         true,
@@ -101,10 +84,7 @@ const UNFOLDED: [(&[u8], bool); 5] = [
         b"{ lseg(x, y) &*& y.next |-> z } ensures { lseg(x, z) }",
         false,
     ),
-];
-
-// A segment is no cycle, and two segments from one cell have an empty one among them.
-const APART: [(&[u8], bool); 5] = [
+    // a segment is no cycle, and two segments from one cell have an empty one among them
     (b"{ lseg(x, x) } ensures { emp }", true),
     (b"{ lseg(x, y) &*& lseg(y, x) } ensures { emp }", false),
     (
@@ -116,10 +96,7 @@ const APART: [(&[u8], bool); 5] = [
         true,
     ),
     (b"{ acc(x) &*& acc(x) } ensures { emp }", true),
-];
-
-// The whole heap is judged, under denials too.
-const DENIED: [(&[u8], bool); 5] = [
+    // the whole heap is judged, under denials too
     (
         b"{ lseg(x, null) } && !{ emp } ensures !{ x == null } && !{ x != null }",
         true,
@@ -137,51 +114,51 @@ const DENIED: [(&[u8], bool); 5] = [
 ];
 
 #[test]
-fn composed(rt: HostRuntime) -> Result<(), AllocError> {
-    assert!(rt; wrong_question(rt.alloc(), &COMPOSED)? == None);
+fn questions(rt: HostRuntime) -> Result<(), AllocError> {
+    assert!(rt; wrong_question(rt.alloc(), QUESTIONS)? == None);
     Ok(())
 }
 
-#[test]
-fn unfolded(rt: HostRuntime) -> Result<(), AllocError> {
-    assert!(rt; wrong_question(rt.alloc(), &UNFOLDED)? == None);
-    Ok(())
-}
+const NOTHING: Case<'static> = Case {
+    words: &["entail", "row"],
+    text: b"",
+    row: b"",
+    status: Status::TextRefused,
+    written: b"refused: Syntax at 1:1\n",
+};
 
-#[test]
-fn apart(rt: HostRuntime) -> Result<(), AllocError> {
-    assert!(rt; wrong_question(rt.alloc(), &APART)? == None);
-    Ok(())
-}
-
-#[test]
-fn denied(rt: HostRuntime) -> Result<(), AllocError> {
-    assert!(rt; wrong_question(rt.alloc(), &DENIED)? == None);
-    Ok(())
-}
-
-// A question's file, and why it is refused.
-const REFUSED: [(&[u8], &[u8]); 5] = [
-    (b"", b"refused: Syntax at 1:1\n"),
-    (
-        b"requires { emp } ensures { x == null }",
-        b"refused: UnknownName at 1:28\n",
-    ),
-    (
-        b"var x, x: Node; requires { y == x } ensures { emp }",
-        b"refused: DuplicateName at 1:8\n",
-    ),
-    (
-        b"requires { emp } ensures { emp } }",
-        b"refused: Syntax at 1:34\n",
-    ),
-    (b"requires @", b"refused: Byte at offset 9\n"),
+const CASES: &[Case<'static>] = &[
+    Case {
+        row: NOWHERE,
+        status: Status::Refuted,
+        written: NOWHERE_REPORT,
+        ..NOTHING
+    },
+    NOTHING,
+    Case {
+        row: b"requires { emp } ensures { x == null }",
+        written: b"refused: UnknownName at 1:28\n",
+        ..NOTHING
+    },
+    Case {
+        row: b"var x, x: Node; requires { y == x } ensures { emp }",
+        written: b"refused: DuplicateName at 1:8\n",
+        ..NOTHING
+    },
+    Case {
+        row: b"requires { emp } ensures { emp } }",
+        written: b"refused: Syntax at 1:34\n",
+        ..NOTHING
+    },
+    Case {
+        row: b"requires @",
+        written: b"refused: Byte at offset 9\n",
+        ..NOTHING
+    },
 ];
 
 #[test]
-fn refused(rt: HostRuntime) -> Result<(), AllocError> {
-    for (question, line) in REFUSED {
-        assert!(rt; reports(rt.alloc(), "entail", question, Status::TextRefused, line)?);
-    }
+fn no_cell_at_null_and_refusals(rt: HostRuntime) -> Result<(), AllocError> {
+    assert!(rt; wrong_case(rt.alloc(), CASES)? == None);
     Ok(())
 }

@@ -1,6 +1,6 @@
 //! Proof logs that are written and judged.
 
-use crate::answers::{Table, answer, answers, wrong_row};
+use crate::answers::{Table, answer, answers, wrong_table};
 use gh_texts::{LOG, NOP, REVERSE, SECOND, wide};
 use gh_top::status::Status;
 use std::alloc::{AllocError, Global};
@@ -57,25 +57,26 @@ const DAMAGED: Table<'static> = Table {
     ],
 };
 
+const NO_LOG: Table<'static> = Table {
+    head: b"",
+    rows: &[(b"", b"line 1")],
+    ..DAMAGED
+};
+
+const VALID: Table<'static> = Table {
+    head: LOG,
+    status: Status::Verified,
+    before: b"rechecked: ",
+    after: b" valid\n",
+    rows: &[(b"", b"1 of 1")],
+    ..DAMAGED
+};
+
+const LOGS: &[Table] = &[DAMAGED, NO_LOG, VALID];
+
 #[test]
 fn judged_logs(rt: HostRuntime) -> Result<(), AllocError> {
-    let alloc = rt.alloc();
-    assert_eq!(rt; wrong_row(alloc, &DAMAGED)?, None);
-    let none = Table {
-        head: b"",
-        rows: &[(b"", b"line 1")],
-        ..DAMAGED
-    };
-    assert_eq!(rt; wrong_row(alloc, &none)?, None);
-    let valid = Table {
-        head: LOG,
-        status: Status::Verified,
-        before: b"rechecked: ",
-        after: b" valid\n",
-        rows: &[(b"", b"1 of 1")],
-        ..DAMAGED
-    };
-    assert_eq!(rt; wrong_row(alloc, &valid)?, None);
+    assert!(rt; wrong_table(rt.alloc(), LOGS)? == None);
     Ok(())
 }
 
@@ -93,18 +94,19 @@ const HINTED: Table<'static> = Table {
     ..DAMAGED
 };
 
+const VALID_HINTS: Table<'static> = Table {
+    status: Status::Verified,
+    before: b"rechecked: ",
+    after: b" valid\n",
+    rows: &[(b"l ; 1 2 3 4 5 6\n", b"1 of 1")],
+    ..HINTED
+};
+
+const HINTS: &[Table] = &[HINTED, VALID_HINTS];
+
 #[test]
 fn judged_hints(rt: HostRuntime) -> Result<(), AllocError> {
-    let alloc = rt.alloc();
-    assert_eq!(rt; wrong_row(alloc, &HINTED)?, None);
-    let valid = Table {
-        status: Status::Verified,
-        before: b"rechecked: ",
-        after: b" valid\n",
-        rows: &[(b"l ; 1 2 3 4 5 6\n", b"1 of 1")],
-        ..HINTED
-    };
-    assert_eq!(rt; wrong_row(alloc, &valid)?, None);
+    assert!(rt; wrong_table(rt.alloc(), HINTS)? == None);
     Ok(())
 }
 
@@ -136,9 +138,8 @@ fn rechecks(alloc: Global, program: &[u8], line: &[u8]) -> Result<bool, AllocErr
 
 #[test]
 fn written_logs(rt: HostRuntime) -> Result<(), AllocError> {
-    let alloc = rt.alloc();
-    assert!(rt; rechecks(alloc, NOP, b"rechecked: 1 of 1 valid\n")?);
-    assert!(rt; rechecks(alloc, REVERSE, b"rechecked: 5 of 5 valid\n")?);
+    assert!(rt; rechecks(rt.alloc(), NOP, b"rechecked: 1 of 1 valid\n")?);
+    assert!(rt; rechecks(rt.alloc(), REVERSE, b"rechecked: 5 of 5 valid\n")?);
     Ok(())
 }
 
@@ -194,15 +195,5 @@ fn is_refuted(alloc: Global, program: &[u8]) -> Result<bool, AllocError> {
 #[test]
 fn no_log(rt: HostRuntime) -> Result<(), AllocError> {
     assert!(rt; is_refuted(rt.alloc(), SECOND)?);
-    Ok(())
-}
-
-#[test]
-fn a_long_log(rt: HostRuntime) -> Result<(), AllocError> {
-    let alloc = rt.alloc();
-    let log = vec![in alloc; b'x'; 67_108_865]?;
-    let words = &["recheck", "text", "row"];
-    let line = b"refused: log TooLong\n";
-    assert!(rt; answers(alloc, words, NOP, log.as_slice(), Status::LogRefused, line)?);
     Ok(())
 }

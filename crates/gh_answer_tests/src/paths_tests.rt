@@ -1,6 +1,6 @@
 //! Worked lists of conditions.
 
-use crate::answers::{Table, reports, wrong_row};
+use crate::answers::{Table, reports, wrong_table};
 use gh_texts::{CONCAT, NODE, NOP, REUSE, REVERSE, SKIP};
 use gh_top::status::Status;
 use std::alloc::AllocError;
@@ -57,7 +57,7 @@ const NEST_PATHS: &[u8] = b"1 nest from entry: loop entry at 6:3, 1 steps, 1 ver
 9 nest from loop at 7:5: loop end at 7:43, 3 steps, 1 versions, 3 terms
 9";
 
-const LISTED: Table<'static> = Table {
+const LISTED: &[Table] = &[Table {
     words: &["paths", "row"],
     text: b"",
     head: b"",
@@ -73,11 +73,11 @@ const LISTED: Table<'static> = Table {
         (SKIP, SKIP_PATHS),
         (NEST, NEST_PATHS),
     ],
-};
+}];
 
 #[test]
 fn listed_programs(rt: HostRuntime) -> Result<(), AllocError> {
-    assert_eq!(rt; wrong_row(rt.alloc(), &LISTED)?, None);
+    assert!(rt; wrong_table(rt.alloc(), LISTED)? == None);
     let syntax = b"refused: Syntax at 1:1\n";
     assert!(rt; reports(rt.alloc(), "paths", b"", Status::TextRefused, syntax)?);
     Ok(())

@@ -1,6 +1,6 @@
 //! Texts that don't parse or break a type rule, with the refusals that are named.
 
-use crate::answers::{Table, reports, wrong_row};
+use crate::answers::{Table, wrong_table};
 use gh_texts::NODE;
 use gh_top::status::Status;
 use std::alloc::AllocError;
@@ -66,13 +66,6 @@ const PROCEDURES: Table<'static> = Table {
     ],
 };
 
-#[test]
-fn fields_and_procedures(rt: HostRuntime) -> Result<(), AllocError> {
-    assert_eq!(rt; wrong_row(rt.alloc(), &WHOLE)?, None);
-    assert_eq!(rt; wrong_row(rt.alloc(), &PROCEDURES)?, None);
-    Ok(())
-}
-
 // The rest of a procedure. Of several errors the first is named.
 const BODIES: Table<'static> = Table {
     words: &["check", "row"],
@@ -115,21 +108,10 @@ const BODIES: Table<'static> = Table {
     ],
 };
 
-#[test]
-fn type_errors(rt: HostRuntime) -> Result<(), AllocError> {
-    assert_eq!(rt; wrong_row(rt.alloc(), &BODIES)?, None);
-    Ok(())
-}
+const TABLES: &[Table] = &[WHOLE, PROCEDURES, BODIES];
 
-// A procedure and a variable may have the same name.
 #[test]
-fn shared_names(rt: HostRuntime) -> Result<(), AllocError> {
-    let text = b"struct Node { var next: Node; }
-procedure p(p: Node) returns (y: Node)
-ensures y == p
-{ y := p; }
-";
-    let verified = b"verified: 1 of 1 valid\n";
-    assert!(rt; reports(rt.alloc(), "check", text, Status::Verified, verified)?);
+fn refusals(rt: HostRuntime) -> Result<(), AllocError> {
+    assert!(rt; wrong_table(rt.alloc(), TABLES)? == None);
     Ok(())
 }

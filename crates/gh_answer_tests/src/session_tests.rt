@@ -1,7 +1,6 @@
 //! The mode `session`.
 
-use crate::answers::{answers, reports};
-use gh_texts::NOP;
+use crate::answers::{Case, wrong_case};
 use gh_top::status::Status;
 use std::alloc::AllocError;
 
@@ -141,35 +140,46 @@ answer 3, 3 decided
 verified: 3 of 3 valid
 ";
 
-#[test]
-fn edits_of_callees_and_loops(rt: HostRuntime) -> Result<(), AllocError> {
-    let alloc = rt.alloc();
-    let listed = Status::Listed;
-    assert!(rt; reports(alloc, "session", CALLED, listed, CALLED_ANSWERS)?);
-    assert!(rt; reports(alloc, "session", LOOP, listed, LOOP_ANSWERS)?);
-    Ok(())
-}
+const OF_CALLED: Case<'static> = Case {
+    words: &["session", "row"],
+    text: b"",
+    row: CALLED,
+    status: Status::Listed,
+    written: CALLED_ANSWERS,
+};
+
+const CASES: &[Case<'static>] = &[
+    OF_CALLED,
+    Case {
+        row: LOOP,
+        written: LOOP_ANSWERS,
+        ..OF_CALLED
+    },
+    Case {
+        row: REPLACED,
+        written: REPLACED_ANSWERS,
+        ..OF_CALLED
+    },
+    Case {
+        row: STRANGE_BYTE,
+        written: STRANGE_ANSWERS,
+        ..OF_CALLED
+    },
+    Case {
+        row: SILENT,
+        written: b"",
+        ..OF_CALLED
+    },
+    Case {
+        row: BAD_LINE,
+        status: Status::LogRefused,
+        written: b"refused: session line 2\n",
+        ..OF_CALLED
+    },
+];
 
 #[test]
 fn answers_of_sessions(rt: HostRuntime) -> Result<(), AllocError> {
-    let alloc = rt.alloc();
-    let listed = Status::Listed;
-    assert!(rt; reports(alloc, "session", REPLACED, listed, REPLACED_ANSWERS)?);
-    assert!(rt; reports(alloc, "session", STRANGE_BYTE, listed, STRANGE_ANSWERS)?);
-    assert!(rt; reports(alloc, "session", SILENT, listed, b"")?);
-    Ok(())
-}
-
-#[test]
-fn refused_session_files(rt: HostRuntime) -> Result<(), AllocError> {
-    let alloc = rt.alloc();
-    let refused = Status::LogRefused;
-    let line = b"refused: session line 2\n";
-    assert!(rt; reports(alloc, "session", BAD_LINE, refused, line)?);
-    let line = b"refused: session Absent\n";
-    assert!(rt; answers(alloc, &["session", "e"], NOP, NOP, refused, line)?);
-    let long = vec![in alloc; b'\n'; 4_194_305]?;
-    let line = b"refused: session TooLong\n";
-    assert!(rt; reports(alloc, "session", long.as_slice(), refused, line)?);
+    assert!(rt; wrong_case(rt.alloc(), CASES)? == None);
     Ok(())
 }

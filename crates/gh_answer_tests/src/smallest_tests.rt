@@ -1,6 +1,6 @@
 //! What `smallest` answers for worked programs.
 
-use crate::answers::{answer, reports};
+use crate::answers::{Case, answer, wrong_case};
 use gh_texts::{CUT, DROP, LAST, NOP, RING, SECOND};
 use gh_top::status::Status;
 use std::alloc::{AllocError, Global};
@@ -15,24 +15,26 @@ heap
 end
 ";
 
-#[test]
-fn no_cell(rt: HostRuntime) -> Result<(), AllocError> {
-    assert!(rt;
-        reports(
-            rt.alloc(),
-            "smallest",
-            SECOND,
-            Status::Refuted,
-            SECOND_REPORT
-        )?
-    );
-    Ok(())
-}
+const CASES: &[Case<'static>] = &[
+    Case {
+        words: &["smallest", "row"],
+        text: b"",
+        row: SECOND,
+        status: Status::Refuted,
+        written: SECOND_REPORT,
+    },
+    Case {
+        words: &["smallest", "row"],
+        text: b"",
+        row: NOP,
+        status: Status::Verified,
+        written: b"verified: 1 of 1 valid\n",
+    },
+];
 
 #[test]
-fn all_are_valid(rt: HostRuntime) -> Result<(), AllocError> {
-    let line = b"verified: 1 of 1 valid\n";
-    assert!(rt; reports(rt.alloc(), "smallest", NOP, Status::Verified, line)?);
+fn no_cell_and_nothing_refuted(rt: HostRuntime) -> Result<(), AllocError> {
+    assert!(rt; wrong_case(rt.alloc(), CASES)? == None);
     Ok(())
 }
 
@@ -46,7 +48,7 @@ procedure five(a: Node, b: Node, c: Node, d: Node, e: Node, f: Node)
 // A text, and the first line of its report.
 type Line<'a> = (&'a [u8], &'a [u8]);
 
-const LINES: [Line<'static>; 5] = [
+const LINES: &[Line<'static>] = &[
     (DROP, b"smallest: condition 2 of 2, 1 cells\n"),
     (CUT, b"smallest: condition 2 of 2, 2 cells\n"),
     (LAST, b"smallest: condition 2 of 4, 1 cells\n"),
@@ -67,6 +69,6 @@ fn wrong_line(alloc: Global, rows: &[Line<'_>]) -> Result<Option<usize>, AllocEr
 
 #[test]
 fn fewest_cells(rt: HostRuntime) -> Result<(), AllocError> {
-    assert_eq!(rt; wrong_line(rt.alloc(), &LINES)?, None);
+    assert!(rt; wrong_line(rt.alloc(), LINES)? == None);
     Ok(())
 }

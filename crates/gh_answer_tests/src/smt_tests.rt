@@ -1,6 +1,6 @@
 //! The mode `smt`.
 
-use crate::answers::answers;
+use crate::answers::{Case, answers, wrong_case};
 use gh_texts::{NOP, wide};
 use gh_top::status::Status;
 use std::alloc::AllocError;
@@ -65,30 +65,41 @@ const NOP_SCRIPT: &[u8] = b"(set-logic QF_UF)
 (exit)
 ";
 
+const USAGE: Case<'static> = Case {
+    words: &["smt", "row", "0"],
+    text: b"",
+    row: NOP,
+    status: Status::Usage,
+    written: b"refused: usage\n",
+};
+
+const CASES: &[Case<'static>] = &[
+    Case {
+        words: &["smt", "row", "1"],
+        status: Status::Listed,
+        written: NOP_SCRIPT,
+        ..USAGE
+    },
+    Case {
+        words: &["smt", "row", "2"],
+        status: Status::LogRefused,
+        written: b"refused: no condition 2 of 1\n",
+        ..USAGE
+    },
+    USAGE,
+    Case {
+        words: &["smt", "row", "01"],
+        ..USAGE
+    },
+    Case {
+        words: &["smt", "row"],
+        ..USAGE
+    },
+];
+
 #[test]
 fn scripts(rt: HostRuntime) -> Result<(), AllocError> {
-    let alloc = rt.alloc();
-    assert!(rt;
-        answers(
-            alloc,
-            &["smt", "row", "1"],
-            b"",
-            NOP,
-            Status::Listed,
-            NOP_SCRIPT
-        )?
-    );
-    let none = b"refused: no condition 2 of 1\n";
-    assert!(rt;
-        answers(
-            alloc,
-            &["smt", "row", "2"],
-            b"",
-            NOP,
-            Status::LogRefused,
-            none
-        )?
-    );
+    assert!(rt; wrong_case(rt.alloc(), CASES)? == None);
     Ok(())
 }
 
@@ -107,15 +118,5 @@ fn too_long(rt: HostRuntime) -> Result<(), AllocError> {
             refused
         )?
     );
-    Ok(())
-}
-
-#[test]
-fn numbers(rt: HostRuntime) -> Result<(), AllocError> {
-    let alloc = rt.alloc();
-    let usage = b"refused: usage\n";
-    assert!(rt; answers(alloc, &["smt", "row", "0"], b"", NOP, Status::Usage, usage)?);
-    assert!(rt; answers(alloc, &["smt", "row", "01"], b"", NOP, Status::Usage, usage)?);
-    assert!(rt; answers(alloc, &["smt", "row"], b"", NOP, Status::Usage, usage)?);
     Ok(())
 }

@@ -5,7 +5,7 @@ use crate::symbolic_tests::{CASES, TWICE, WALK};
 use gh_texts::{CONCAT, NOP, REUSE, REVERSE};
 use std::alloc::AllocError;
 
-const NOP_CLAUSES: [&[Word]; 25] = [
+const NOP_CLAUSES: &[&[Word]] = &[
     &[Word::NotA],
     &[Word::D(0), Word::A],
     &[Word::D(0), Word::NotH],
@@ -39,38 +39,40 @@ const NOP_CLAUSES: [&[Word]; 25] = [
 // a write n + 2nn and 1 + 5n + 8nn; a new cell 2n + 2nn and 2 + 8n + 8nn; a free 2n + 2nn and
 // 8n + 8nn; a step over a part 5n + 3nn and 2 + 18n + 11nn, beside what its two assertions make:
 // 2n + nn times the footprint of the first, 2n times that of the second, and both structures.
+const SIZES_OF_GROUNDS: &[Row] = &[
+    (NOP, 1, Expected::Sizes((1, 1, 9, 25))),
+    (REVERSE, 1, Expected::Sizes((2, 1, 14, 54))),
+    (REVERSE, 2, Expected::Sizes((5, 2, 299, 1047))),
+    (REVERSE, 3, Expected::Sizes((3, 1, 26, 99))),
+    (REVERSE, 4, Expected::Sizes((4, 1, 36, 142))),
+    (REVERSE, 5, Expected::Sizes((4, 2, 106, 422))),
+    (CONCAT, 1, Expected::Sizes((3, 1, 33, 125))),
+    (CONCAT, 2, Expected::Sizes((3, 1, 26, 99))),
+    (CONCAT, 3, Expected::Sizes((4, 1, 49, 185))),
+    (CONCAT, 4, Expected::Sizes((5, 2, 280, 984))),
+    (CONCAT, 5, Expected::Sizes((6, 3, 470, 1741))),
+    (REUSE, 1, Expected::Sizes((3, 1, 9, 46))),
+    (REUSE, 2, Expected::Sizes((6, 3, 229, 979))),
+    (NOP, 1, Expected::Clauses(NOP_CLAUSES)),
+];
+
 #[test]
 fn sizes_of_grounds(rt: HostRuntime) -> Result<(), AllocError> {
-    let rows: [Row; 14] = [
-        (NOP, 1, Expected::Sizes((1, 1, 9, 25))),
-        (REVERSE, 1, Expected::Sizes((2, 1, 14, 54))),
-        (REVERSE, 2, Expected::Sizes((5, 2, 299, 1047))),
-        (REVERSE, 3, Expected::Sizes((3, 1, 26, 99))),
-        (REVERSE, 4, Expected::Sizes((4, 1, 36, 142))),
-        (REVERSE, 5, Expected::Sizes((4, 2, 106, 422))),
-        (CONCAT, 1, Expected::Sizes((3, 1, 33, 125))),
-        (CONCAT, 2, Expected::Sizes((3, 1, 26, 99))),
-        (CONCAT, 3, Expected::Sizes((4, 1, 49, 185))),
-        (CONCAT, 4, Expected::Sizes((5, 2, 280, 984))),
-        (CONCAT, 5, Expected::Sizes((6, 3, 470, 1741))),
-        (REUSE, 1, Expected::Sizes((3, 1, 9, 46))),
-        (REUSE, 2, Expected::Sizes((6, 3, 229, 979))),
-        (NOP, 1, Expected::Clauses(&NOP_CLAUSES)),
-    ];
-    assert!(rt; are(rt.alloc(), &rows)?);
+    assert!(rt; are(rt.alloc(), SIZES_OF_GROUNDS)?);
     Ok(())
 }
 
+const SIZES_WITH_CALLS_LOOPS_AND_CASES: &[Row] = &[
+    (TWICE, 3, Expected::Sizes((5, 1, 22, 96))),
+    (TWICE, 4, Expected::Sizes((8, 2, 319, 1254))),
+    (WALK, 2, Expected::Sizes((6, 2, 237, 888))),
+    (WALK, 4, Expected::Sizes((4, 1, 24, 109))),
+    (CASES, 1, Expected::Sizes((5, 1, 75, 275))),
+    (CASES, 4, Expected::Sizes((6, 2, 402, 1389))),
+];
+
 #[test]
 fn sizes_with_calls_loops_and_cases(rt: HostRuntime) -> Result<(), AllocError> {
-    let rows: [Row; 6] = [
-        (TWICE, 3, Expected::Sizes((5, 1, 22, 96))),
-        (TWICE, 4, Expected::Sizes((8, 2, 319, 1254))),
-        (WALK, 2, Expected::Sizes((6, 2, 237, 888))),
-        (WALK, 4, Expected::Sizes((4, 1, 24, 109))),
-        (CASES, 1, Expected::Sizes((5, 1, 75, 275))),
-        (CASES, 4, Expected::Sizes((6, 2, 402, 1389))),
-    ];
-    assert!(rt; are(rt.alloc(), &rows)?);
+    assert!(rt; are(rt.alloc(), SIZES_WITH_CALLS_LOOPS_AND_CASES)?);
     Ok(())
 }

@@ -40,13 +40,14 @@ const TAIL_ENCODED: Encoded<'static> = Encoded {
     states: &[("x", &[1, 1, 1, 1, 1]), ("y", &[NONE, NONE, 2, 2, 2])],
 };
 
+const READS_AND_FREE: &[Row] = &[
+    (DEREF, 1, Expected::Encoded(DEREF_ENCODED)),
+    (TAIL, 3, Expected::Encoded(TAIL_ENCODED)),
+];
+
 #[test]
 fn reads_and_free(rt: HostRuntime) -> Result<(), AllocError> {
-    let rows: [Row; 2] = [
-        (DEREF, 1, Expected::Encoded(DEREF_ENCODED)),
-        (TAIL, 3, Expected::Encoded(TAIL_ENCODED)),
-    ];
-    assert!(rt; are(rt.alloc(), &rows)?);
+    assert!(rt; are(rt.alloc(), READS_AND_FREE)?);
     Ok(())
 }
 
@@ -126,14 +127,15 @@ const REUSE_ENCODED: Encoded<'static> = Encoded {
     states: &[("x", &[1, 1, 1, 1]), ("y", &[NONE, NONE, NONE, 3])],
 };
 
+const WRITES_AND_NEW: &[Row] = &[
+    (LINK, 4, Expected::Encoded(LINK_ENCODED)),
+    (LINK, 3, Expected::Encoded(READ_ENCODED)),
+    (REUSE, 2, Expected::Encoded(REUSE_ENCODED)),
+];
+
 #[test]
 fn writes_and_new(rt: HostRuntime) -> Result<(), AllocError> {
-    let rows: [Row; 3] = [
-        (LINK, 4, Expected::Encoded(LINK_ENCODED)),
-        (LINK, 3, Expected::Encoded(READ_ENCODED)),
-        (REUSE, 2, Expected::Encoded(REUSE_ENCODED)),
-    ];
-    assert!(rt; are(rt.alloc(), &rows)?);
+    assert!(rt; are(rt.alloc(), WRITES_AND_NEW)?);
     Ok(())
 }
 
@@ -192,13 +194,14 @@ const CALLED_ENCODED: Encoded<'static> = Encoded {
     ..CALL_ENCODED
 };
 
+const CALLS: &[Row] = &[
+    (TWICE, 3, Expected::Encoded(CALL_ENCODED)),
+    (TWICE, 4, Expected::Encoded(CALLED_ENCODED)),
+];
+
 #[test]
 fn calls(rt: HostRuntime) -> Result<(), AllocError> {
-    let rows: [Row; 2] = [
-        (TWICE, 3, Expected::Encoded(CALL_ENCODED)),
-        (TWICE, 4, Expected::Encoded(CALLED_ENCODED)),
-    ];
-    assert!(rt; are(rt.alloc(), &rows)?);
+    assert!(rt; are(rt.alloc(), CALLS)?);
     Ok(())
 }
 
@@ -288,14 +291,15 @@ const TURN_ENCODED: Encoded<'static> = Encoded {
     ],
 };
 
+const LOOPS: &[Row] = &[
+    (WALK, 2, Expected::Encoded(PASSED_ENCODED)),
+    (WALK, 1, Expected::Encoded(LOOP_ENCODED)),
+    (WALK, 4, Expected::Encoded(TURN_ENCODED)),
+];
+
 #[test]
 fn loops(rt: HostRuntime) -> Result<(), AllocError> {
-    let rows: [Row; 3] = [
-        (WALK, 2, Expected::Encoded(PASSED_ENCODED)),
-        (WALK, 1, Expected::Encoded(LOOP_ENCODED)),
-        (WALK, 4, Expected::Encoded(TURN_ENCODED)),
-    ];
-    assert!(rt; are(rt.alloc(), &rows)?);
+    assert!(rt; are(rt.alloc(), LOOPS)?);
     Ok(())
 }
 
@@ -349,14 +353,15 @@ const SWAP_ENCODED: Encoded<'static> = Encoded {
     ..LATE_ENCODED
 };
 
+const VARIABLES_THAT_ARE_NOT_ASSIGNED: &[Row] = &[
+    (LATE, 1, Expected::Encoded(LATE_ENCODED)),
+    (LATER, 2, Expected::Encoded(LATER_ENCODED)),
+    (SWAP, 1, Expected::Encoded(SWAP_ENCODED)),
+];
+
 #[test]
 fn variables_that_are_not_assigned(rt: HostRuntime) -> Result<(), AllocError> {
-    let rows: [Row; 3] = [
-        (LATE, 1, Expected::Encoded(LATE_ENCODED)),
-        (LATER, 2, Expected::Encoded(LATER_ENCODED)),
-        (SWAP, 1, Expected::Encoded(SWAP_ENCODED)),
-    ];
-    assert!(rt; are(rt.alloc(), &rows)?);
+    assert!(rt; are(rt.alloc(), VARIABLES_THAT_ARE_NOT_ASSIGNED)?);
     Ok(())
 }
 
@@ -410,13 +415,14 @@ const BOTH_ENCODED: Encoded<'static> = Encoded {
     states: &[("x", &[1, 1, 1]), ("y", &[NONE, NONE, 4])],
 };
 
+const CONTRACTS_WITH_CASES: &[Row] = &[
+    (CASES, 1, Expected::Encoded(CHOOSE_ENCODED)),
+    (CASES, 4, Expected::Encoded(BOTH_ENCODED)),
+];
+
 #[test]
 fn contracts_with_cases(rt: HostRuntime) -> Result<(), AllocError> {
-    let rows: [Row; 2] = [
-        (CASES, 1, Expected::Encoded(CHOOSE_ENCODED)),
-        (CASES, 4, Expected::Encoded(BOTH_ENCODED)),
-    ];
-    assert!(rt; are(rt.alloc(), &rows)?);
+    assert!(rt; are(rt.alloc(), CONTRACTS_WITH_CASES)?);
     Ok(())
 }
 
@@ -447,17 +453,18 @@ procedure p(x: Node)
 { var c: Node; c := new Node; c := new Node; c := new Node; c := new Node; c := new Node; c := new Node; c := new Node; c := new Node; c := new Node; c := new Node; c := new Node; c := new Node; c := new Node; c := new Node; c := new Node; c := new Node; c := new Node; c := new Node; c := new Node; c := new Node; c := new Node; c := new Node; c := new Node; c := new Node; }
 ";
 
+const LIMITS: &[Row] = &[
+    (WIDER, 1, Expected::Limit(6, 33)),
+    // the end, after all writes, is the last condition
+    (WRITES, 25, Expected::Limit(7, 25)),
+    (WRITES, 24, Expected::Sizes((25, 24, 30023, 135084))),
+    (WIDE, 1, Expected::Sizes((32, 1, 42883, 86982))),
+    // 49 terms and 25 versions: the terms come first
+    (CELLS, 1, Expected::Limit(6, 33)),
+];
+
 #[test]
 fn limits(rt: HostRuntime) -> Result<(), AllocError> {
-    let rows: [Row; 5] = [
-        (WIDER, 1, Expected::Limit(6, 33)),
-        // the end, after all writes, is the last condition
-        (WRITES, 25, Expected::Limit(7, 25)),
-        (WRITES, 24, Expected::Sizes((25, 24, 30023, 135084))),
-        (WIDE, 1, Expected::Sizes((32, 1, 42883, 86982))),
-        // 49 terms and 25 versions: the terms come first
-        (CELLS, 1, Expected::Limit(6, 33)),
-    ];
-    assert!(rt; are(rt.alloc(), &rows)?);
+    assert!(rt; are(rt.alloc(), LIMITS)?);
     Ok(())
 }

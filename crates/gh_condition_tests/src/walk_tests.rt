@@ -89,7 +89,7 @@ fn walked(alloc: Global, text: &[u8]) -> Result<Option<u32>, AllocError> {
 #[test]
 fn walked_beside_numbers(rt: HostRuntime) -> Result<(), AllocError> {
     let alloc = rt.alloc();
-    assert_eq!(rt; walked(alloc, REVERSE)?, Some(5));
-    assert_eq!(rt; walked(alloc, MANY)?, Some(1024));
+    assert!(rt; walked(alloc, REVERSE)? == Some(5));
+    assert!(rt; walked(alloc, MANY)? == Some(1024));
     Ok(())
 }

@@ -2,6 +2,8 @@
 #![tactic(auto)]
 
 #[cfg(test)]
+mod answer;
+#[cfg(test)]
 mod meaning_tests;
 #[cfg(test)]
 mod outside_tests;

@@ -1,13 +1,12 @@
-// The evaluator on worked assertions, and each call once.
+// The evaluator on worked assertions.
 
-use gh_assert::heap::{Cell, Heap};
+use gh_assert::heap::Heap;
 use gh_assert::meaning::{footprint, holds, meets_one_of};
 use gh_assert::store::Store;
 use gh_ast::{Assertion, Cond, Expr, Occ, Operand};
 use gh_base::name::Name;
 use gh_base::place::Span;
 use std::alloc::{AllocError, Global};
-use std::test::Fail;
 
 // A value that is named by a letter, `0` for null.
 type Letter = &'static str;
@@ -22,23 +21,25 @@ enum Member {
     Lseg(Letter, Letter),
 }
 
-#[derive(Clone, Copy)]
-struct Row {
-    members: &'static [Member],
-    cells: &'static [(u32, u32)],
-    holds: bool,
-    places: Option<&'static [u32]>,
-}
+use Member::{Acc, Differ, Emp, Lseg, Same, To};
 
-fn occ(alloc: Global, letter: Letter) -> Result<Occ, Fail> {
+// The members of an assertion, the cells of a heap, whether the assertion holds there, and its footprint.
+type Row = (
+    &'static [Member],
+    &'static [(u32, u32)],
+    bool,
+    Option<&'static [u32]>,
+);
+
+fn occ(alloc: Global, letter: Letter) -> Result<Occ, AllocError> {
     let span = Span { line: 1, col: 1 };
     match Name::new(alloc, letter)? {
         Some(name) => Ok(Occ { name, span }),
-        None => Err(Fail::from(AllocError)),
+        None => Err(AllocError),
     }
 }
 
-fn operand(alloc: Global, letter: Letter) -> Result<Operand, Fail> {
+fn operand(alloc: Global, letter: Letter) -> Result<Operand, AllocError> {
     if letter == "0" {
         return Ok(Operand::Null {
             span: Span { line: 1, col: 1 },
@@ -47,7 +48,12 @@ fn operand(alloc: Global, letter: Letter) -> Result<Operand, Fail> {
     Ok(Operand::Var(occ(alloc, letter)?))
 }
 
-fn comparison(alloc: Global, left: Letter, equal: bool, right: Letter) -> Result<Assertion, Fail> {
+fn comparison(
+    alloc: Global,
+    left: Letter,
+    equal: bool,
+    right: Letter,
+) -> Result<Assertion, AllocError> {
     Ok(Assertion::Pure {
         left: operand(alloc, left)?,
         equal,
@@ -55,19 +61,19 @@ fn comparison(alloc: Global, left: Letter, equal: bool, right: Letter) -> Result
     })
 }
 
-fn one_member(alloc: Global, member: Member) -> Result<Assertion, Fail> {
+fn one_member(alloc: Global, member: Member) -> Result<Assertion, AllocError> {
     match member {
-        Member::Emp => Ok(Assertion::Emp),
-        Member::Same(left, right) => comparison(alloc, left, true, right),
-        Member::Differ(left, right) => comparison(alloc, left, false, right),
-        Member::To(at, to) => Ok(Assertion::PointsTo {
+        Emp => Ok(Assertion::Emp),
+        Same(left, right) => comparison(alloc, left, true, right),
+        Differ(left, right) => comparison(alloc, left, false, right),
+        To(at, to) => Ok(Assertion::PointsTo {
             at: occ(alloc, at)?,
             to: operand(alloc, to)?,
         }),
-        Member::Acc(at) => Ok(Assertion::Acc {
+        Acc(at) => Ok(Assertion::Acc {
             at: occ(alloc, at)?,
         }),
-        Member::Lseg(from, to) => Ok(Assertion::Lseg {
+        Lseg(from, to) => Ok(Assertion::Lseg {
             from: operand(alloc, from)?,
             to: operand(alloc, to)?,
         }),
@@ -75,7 +81,7 @@ fn one_member(alloc: Global, member: Member) -> Result<Assertion, Fail> {
 }
 
 // One member, or a star of several.
-fn assertion(alloc: Global, members: &[Member]) -> Result<Assertion, Fail> {
+fn assertion(alloc: Global, members: &[Member]) -> Result<Assertion, AllocError> {
     if let [only] = members {
         return one_member(alloc, *only);
     }
@@ -86,7 +92,7 @@ fn assertion(alloc: Global, members: &[Member]) -> Result<Assertion, Fail> {
     Ok(Assertion::Star(all))
 }
 
-fn heap(alloc: Global, cells: &[(u32, u32)]) -> Result<Heap, Fail> {
+fn heap(alloc: Global, cells: &[(u32, u32)]) -> Result<Heap, AllocError> {
     let mut heap = Heap::new(alloc);
     for (at, to) in cells {
         if *at != 0 {
@@ -97,7 +103,7 @@ fn heap(alloc: Global, cells: &[(u32, u32)]) -> Result<Heap, Fail> {
 }
 
 // x and w are 1, y is 2, z is 3, and n is null.
-fn store(alloc: Global) -> Result<Store, Fail> {
+fn store(alloc: Global) -> Result<Store, AllocError> {
     let mut store = Store::new(alloc);
     for (letter, value) in [("x", 1), ("w", 1), ("y", 2), ("z", 3), ("n", 0)] {
         let name = occ(alloc, letter)?.name;
@@ -108,204 +114,201 @@ fn store(alloc: Global) -> Result<Store, Fail> {
     Ok(store)
 }
 
-fn case(
-    members: &'static [Member],
-    cells: &'static [(u32, u32)],
-    holds: bool,
-    places: Option<&'static [u32]>,
-) -> Row {
-    Row {
-        members,
-        cells,
-        holds,
-        places,
-    }
-}
-
 // Small heaps, then segments that run into cycles, past their ends and into shared tails.
-fn segments() -> [Row; 18] {
-    use Member::{Acc, Lseg};
-    [
-        case(&[Lseg("x", "w")], &[], true, Some(&[])),
-        case(&[Lseg("x", "w")], &[(1, 1)], false, Some(&[])),
-        case(&[Lseg("x", "0")], &[(1, 2), (2, 0)], true, Some(&[1, 2])),
-        case(
-            &[Lseg("x", "0")],
-            &[(1, 2), (2, 0), (3, 0)],
-            false,
-            Some(&[1, 2]),
-        ),
-        case(&[Lseg("x", "0")], &[(1, 1)], false, None),
-        case(&[Acc("x"), Acc("x")], &[(1, 0)], false, None),
-        case(&[Lseg("x", "z")], &[(1, 2), (2, 3)], true, Some(&[1, 2])),
-        case(&[Lseg("x", "z")], &[(1, 2), (2, 1)], false, None),
-        case(&[Lseg("x", "y")], &[(1, 2), (2, 0)], false, Some(&[1])),
-        case(&[Lseg("x", "x")], &[(1, 2)], false, Some(&[])),
-        case(&[Lseg("n", "0")], &[], true, Some(&[])),
-        case(&[Lseg("n", "x")], &[(1, 0)], false, None),
-        case(
-            &[Lseg("x", "y"), Lseg("y", "0")],
-            &[(1, 2), (2, 3), (3, 0)],
-            true,
-            Some(&[1, 2, 3]),
-        ),
-        case(
-            &[Lseg("x", "0"), Lseg("y", "0")],
-            &[(1, 3), (2, 3), (3, 0)],
-            false,
-            None,
-        ),
-        case(
-            &[Lseg("x", "z"), Lseg("y", "z")],
-            &[(1, 3), (2, 3)],
-            true,
-            Some(&[1, 2]),
-        ),
-        case(&[Lseg("x", "z"), Acc("y")], &[(1, 2), (2, 3)], false, None),
-        case(
-            &[Lseg("x", "y"), Lseg("y", "x")],
-            &[(1, 2), (2, 1)],
-            true,
-            Some(&[1, 2]),
-        ),
-        case(
-            &[Lseg("y", "0"), Acc("x")],
-            &[(1, 7), (2, 0)],
-            true,
-            Some(&[1, 2]),
-        ),
-    ]
-}
+const SEGMENTS: &[Row] = &[
+    (&[Lseg("x", "w")], &[], true, Some(&[])),
+    (&[Lseg("x", "w")], &[(1, 1)], false, Some(&[])),
+    (&[Lseg("x", "0")], &[(1, 2), (2, 0)], true, Some(&[1, 2])),
+    (
+        &[Lseg("x", "0")],
+        &[(1, 2), (2, 0), (3, 0)],
+        false,
+        Some(&[1, 2]),
+    ),
+    (&[Lseg("x", "0")], &[(1, 1)], false, None),
+    (&[Acc("x"), Acc("x")], &[(1, 0)], false, None),
+    (&[Lseg("x", "z")], &[(1, 2), (2, 3)], true, Some(&[1, 2])),
+    (&[Lseg("x", "z")], &[(1, 2), (2, 1)], false, None),
+    (&[Lseg("x", "y")], &[(1, 2), (2, 0)], false, Some(&[1])),
+    (&[Lseg("x", "x")], &[(1, 2)], false, Some(&[])),
+    (&[Lseg("n", "0")], &[], true, Some(&[])),
+    (&[Lseg("n", "x")], &[(1, 0)], false, None),
+    (
+        &[Lseg("x", "y"), Lseg("y", "0")],
+        &[(1, 2), (2, 3), (3, 0)],
+        true,
+        Some(&[1, 2, 3]),
+    ),
+    (
+        &[Lseg("x", "0"), Lseg("y", "0")],
+        &[(1, 3), (2, 3), (3, 0)],
+        false,
+        None,
+    ),
+    (
+        &[Lseg("x", "z"), Lseg("y", "z")],
+        &[(1, 3), (2, 3)],
+        true,
+        Some(&[1, 2]),
+    ),
+    (&[Lseg("x", "z"), Acc("y")], &[(1, 2), (2, 3)], false, None),
+    (
+        &[Lseg("x", "y"), Lseg("y", "x")],
+        &[(1, 2), (2, 1)],
+        true,
+        Some(&[1, 2]),
+    ),
+    (
+        &[Lseg("y", "0"), Acc("x")],
+        &[(1, 7), (2, 0)],
+        true,
+        Some(&[1, 2]),
+    ),
+];
 
-fn others() -> [Row; 14] {
-    use Member::{Acc, Differ, Emp, Same, To};
-    [
-        case(&[Emp], &[], true, Some(&[])),
-        case(&[Emp], &[(1, 0)], false, Some(&[])),
-        case(&[Same("x", "w")], &[], true, Some(&[])),
-        case(&[Same("x", "w")], &[(1, 0)], false, Some(&[])),
-        case(&[Differ("x", "w")], &[], false, None),
-        case(&[Differ("x", "y")], &[], true, Some(&[])),
-        case(&[To("x", "y")], &[(1, 2)], true, Some(&[1])),
-        case(&[To("x", "y")], &[(1, 3)], false, None),
-        case(&[To("n", "y")], &[(1, 2)], false, None),
-        case(&[To("x", "x")], &[(1, 1)], true, Some(&[1])),
-        case(&[Acc("n")], &[(1, 0)], false, None),
-        case(
-            &[Acc("x"), Acc("y"), Acc("z")],
-            &[(1, 0), (2, 0), (3, 0)],
-            true,
-            Some(&[1, 2, 3]),
-        ),
-        case(
-            &[Acc("z"), Acc("x")],
-            &[(1, 0), (2, 0), (3, 0)],
-            false,
-            Some(&[1, 3]),
-        ),
-        case(&[Emp, Same("x", "w")], &[], true, Some(&[])),
-    ]
+const OTHERS: &[Row] = &[
+    (&[Emp], &[], true, Some(&[])),
+    (&[Emp], &[(1, 0)], false, Some(&[])),
+    (&[Same("x", "w")], &[], true, Some(&[])),
+    (&[Same("x", "w")], &[(1, 0)], false, Some(&[])),
+    (&[Differ("x", "w")], &[], false, None),
+    (&[Differ("x", "y")], &[], true, Some(&[])),
+    (&[To("x", "y")], &[(1, 2)], true, Some(&[1])),
+    (&[To("x", "y")], &[(1, 3)], false, None),
+    (&[To("n", "y")], &[(1, 2)], false, None),
+    (&[To("x", "x")], &[(1, 1)], true, Some(&[1])),
+    (&[Acc("n")], &[(1, 0)], false, None),
+    (
+        &[Acc("x"), Acc("y"), Acc("z")],
+        &[(1, 0), (2, 0), (3, 0)],
+        true,
+        Some(&[1, 2, 3]),
+    ),
+    (
+        &[Acc("z"), Acc("x")],
+        &[(1, 0), (2, 0), (3, 0)],
+        false,
+        Some(&[1, 3]),
+    ),
+    (&[Emp, Same("x", "w")], &[], true, Some(&[])),
+];
+
+// Whether the assertion of a row holds where it says so, and its footprint is as it says.
+fn is_met(alloc: Global, store: &Store, row: Row) -> Result<bool, AllocError> {
+    let heap = heap(alloc, row.1)?;
+    let assertion = assertion(alloc, row.0)?;
+    let met = holds(alloc, store, &heap, &assertion)?;
+    let places = footprint(alloc, store, &heap, &assertion)?;
+    Ok(met == row.2 && places.as_ref().map(|p| p.as_slice()) == row.3)
 }
 
 // The first row whose answers differ.
-fn first_wrong(alloc: Global, rows: &[Row]) -> Result<Option<usize>, Fail> {
+fn first_wrong(alloc: Global, rows: &[Row]) -> Result<Option<usize>, AllocError> {
     let store = store(alloc)?;
-    for (i, row) in rows.iter().enumerate() {
-        let heap = heap(alloc, row.cells)?;
-        let assertion = assertion(alloc, row.members)?;
-        let met = holds(alloc, &store, &heap, &assertion)?;
-        let places = footprint(alloc, &store, &heap, &assertion)?;
-        if met != row.holds || places.as_ref().map(|p| p.as_slice()) != row.places {
-            return Ok(Some(i));
+    for (number, row) in rows.iter().enumerate() {
+        if !is_met(alloc, &store, *row)? {
+            return Ok(Some(number));
         }
     }
     Ok(None)
 }
 
 #[test]
-fn assertions_of_segments(rt: HostRuntime) -> Result<(), Fail> {
-    assert_eq!(rt; first_wrong(rt.alloc(), &segments())?, None);
+fn assertions_of_segments(rt: HostRuntime) -> Result<(), AllocError> {
+    assert_eq!(rt; first_wrong(rt.alloc(), SEGMENTS)?, None);
     Ok(())
 }
 
 #[test]
-fn other_assertions(rt: HostRuntime) -> Result<(), Fail> {
-    assert_eq!(rt; first_wrong(rt.alloc(), &others())?, None);
+fn other_assertions(rt: HostRuntime) -> Result<(), AllocError> {
+    assert_eq!(rt; first_wrong(rt.alloc(), OTHERS)?, None);
     Ok(())
 }
 
-// `x == other && x != null ? acc(x) : y |-> null`
-fn choice(alloc: Global, other: Letter) -> Result<Assertion, Fail> {
-    let mut tests = Vec::new(alloc);
-    for (equal, letter) in [(true, other), (false, "0")] {
-        tests.push(Cond::Compare {
-            left: Expr::Plain(operand(alloc, "x")?),
-            equal,
-            right: Expr::Plain(operand(alloc, letter)?),
-        })?;
-    }
-    Ok(Assertion::Cases {
-        test: Cond::And(tests),
-        yes: Box::new(alloc, one_member(alloc, Member::Acc("x"))?)?,
-        no: Box::new(alloc, one_member(alloc, Member::To("y", "0"))?)?,
+fn compared(alloc: Global, equal: bool, letter: Letter) -> Result<Cond, AllocError> {
+    Ok(Cond::Compare {
+        left: Expr::Plain(operand(alloc, "x")?),
+        equal,
+        right: Expr::Plain(operand(alloc, letter)?),
     })
 }
 
+// `x == other && x != null`
+fn both(alloc: Global, other: Letter) -> Result<Cond, AllocError> {
+    let mut tests = Vec::new(alloc);
+    tests.push(compared(alloc, true, other)?)?;
+    tests.push(compared(alloc, false, "0")?)?;
+    Ok(Cond::And(tests))
+}
+
+fn boxed(alloc: Global, member: Member) -> Result<Box<Assertion>, AllocError> {
+    let own = one_member(alloc, member)?;
+    Ok(Box::new(alloc, own)?)
+}
+
+// `x == other && x != null ? acc(x) : y |-> null`
+fn choice(alloc: Global, other: Letter) -> Result<Assertion, AllocError> {
+    let test = both(alloc, other)?;
+    let yes = boxed(alloc, Acc("x"))?;
+    let no = boxed(alloc, To("y", "0"))?;
+    Ok(Assertion::Cases { test, yes, no })
+}
+
+// The other variable of a choice, the cells of a heap, and whether the choice holds there.
+type Chosen = (Letter, &'static [(u32, u32)], bool);
+
+const CHOICES: &[Chosen] = &[
+    ("w", &[(1, 0)], true),
+    ("w", &[(1, 0), (2, 0)], false),
+    ("w", &[(2, 0)], false),
+    ("z", &[(2, 0)], true),
+    ("z", &[(1, 0)], false),
+];
+
+fn is_chosen(alloc: Global, row: Chosen) -> Result<bool, AllocError> {
+    let store = store(alloc)?;
+    let heap = heap(alloc, row.1)?;
+    let assertion = choice(alloc, row.0)?;
+    Ok(holds(alloc, &store, &heap, &assertion)? == row.2)
+}
+
 #[test]
-fn choices(rt: HostRuntime) -> Result<(), Fail> {
-    let store = store(rt.alloc())?;
-    let both = heap(rt.alloc(), &[(1, 0), (2, 0)])?;
-    let first = heap(rt.alloc(), &[(1, 0)])?;
-    let second = heap(rt.alloc(), &[(2, 0)])?;
-    let taken = choice(rt.alloc(), "w")?;
-    let otherwise = choice(rt.alloc(), "z")?;
-    assert!(rt; holds(rt.alloc(), &store, &first, &taken)?);
-    assert!(rt; !holds(rt.alloc(), &store, &both, &taken)?);
-    assert!(rt; !holds(rt.alloc(), &store, &second, &taken)?);
-    assert!(rt; holds(rt.alloc(), &store, &second, &otherwise)?);
-    assert!(rt; !holds(rt.alloc(), &store, &first, &otherwise)?);
+fn choices(rt: HostRuntime) -> Result<(), AllocError> {
+    for row in CHOICES {
+        assert!(rt; is_chosen(rt.alloc(), *row)?);
+    }
     Ok(())
 }
 
-// `acc(x) || acc(y)`
-fn alternatives(alloc: Global) -> Result<Vec<Assertion>, Fail> {
+// The places of alternatives `acc`, the cells of a heap, and whether one of the alternatives holds there.
+type Either = (&'static [Letter], &'static [(u32, u32)], bool);
+
+const EITHER: &[Either] = &[
+    (&["x", "y"], &[(1, 0)], true),
+    (&["x", "y"], &[(2, 0)], true),
+    (&["x", "y"], &[(1, 0), (2, 0)], false),
+    (&[], &[(1, 0)], false),
+];
+
+fn alternatives(alloc: Global, letters: &[Letter]) -> Result<Vec<Assertion>, AllocError> {
     let mut all = Vec::new(alloc);
-    for letter in ["x", "y"] {
-        all.push(one_member(alloc, Member::Acc(letter))?)?;
+    for letter in letters {
+        all.push(one_member(alloc, Acc(*letter))?)?;
     }
     Ok(all)
 }
 
-#[test]
-fn one_of_some_alternatives(rt: HostRuntime) -> Result<(), Fail> {
-    let store = store(rt.alloc())?;
-    let first = heap(rt.alloc(), &[(1, 0)])?;
-    let second = heap(rt.alloc(), &[(2, 0)])?;
-    let both = heap(rt.alloc(), &[(1, 0), (2, 0)])?;
-    let all = alternatives(rt.alloc())?;
-    assert!(rt; meets_one_of(rt.alloc(), &store, &first, all.as_slice())?);
-    assert!(rt; meets_one_of(rt.alloc(), &store, &second, all.as_slice())?);
-    assert!(rt; !meets_one_of(rt.alloc(), &store, &both, all.as_slice())?);
-    assert!(rt; !meets_one_of(rt.alloc(), &store, &first, &[])?);
-    Ok(())
+fn is_either(alloc: Global, row: Either) -> Result<bool, AllocError> {
+    let store = store(alloc)?;
+    let heap = heap(alloc, row.1)?;
+    let all = alternatives(alloc, row.0)?;
+    Ok(meets_one_of(alloc, &store, &heap, all.as_slice())? == row.2)
 }
 
 #[test]
-fn heaps_and_stores(rt: HostRuntime) -> Result<(), Fail> {
-    let mut cells = heap(rt.alloc(), &[(5, 1), (2, 7), (5, 3)])?;
-    assert_eq!(rt;
-        cells.cells(),
-        [Cell { at: 2, to: 7 }, Cell { at: 5, to: 3 }].as_slice()
-    );
-    assert_eq!(rt; cells.get(5), Some(3));
-    assert_eq!(rt; cells.take(2), Some(7));
-    assert_eq!(rt; cells.take(2), None);
-    let mut store = store(rt.alloc())?;
-    let name = occ(rt.alloc(), "y")?.name;
-    if store.get(&name).is_some() {
-        store.set(&name, 9);
+fn one_of_some_alternatives(rt: HostRuntime) -> Result<(), AllocError> {
+    for row in EITHER {
+        assert!(rt; is_either(rt.alloc(), *row)?);
     }
-    assert_eq!(rt; store.get(&name), Some(9));
-    assert_eq!(rt; store.entries().len(), 5);
     Ok(())
 }

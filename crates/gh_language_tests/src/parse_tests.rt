@@ -1,28 +1,21 @@
 // Texts that are programs, and texts that are refused.
+use crate::answer::{Answer, refused};
+use Answer::{Accepted, Byte, Deep, Syntax};
 use gh_ast::print::print;
-use gh_parse::error::ParseError;
+use gh_base::text::Text;
 use gh_parse::parse::parse;
 use std::alloc::{AllocError, Global};
 
-// How a text is answered.
-#[derive(Clone, Copy, Debug, PartialEq, Eq)]
-enum Answer {
-    Program,
-    Byte(u32),
-    Deep(u32, u32),
-    Syntax(u32, u32),
-}
+// A text, and how it is answered.
+type Row = (&'static [u8], Answer);
 
 fn answer_to(alloc: Global, text: &[u8]) -> Result<Answer, AllocError> {
     if text.len() >= 2_000 {
         return Err(AllocError);
     }
     match parse(alloc, text) {
-        Ok(_) => Ok(Answer::Program),
-        Err(ParseError::Byte { offset }) => Ok(Answer::Byte(offset)),
-        Err(ParseError::Deep { span }) => Ok(Answer::Deep(span.line, span.col)),
-        Err(ParseError::Syntax { span }) => Ok(Answer::Syntax(span.line, span.col)),
-        Err(ParseError::OutOfMemory) => Err(AllocError),
+        Ok(_) => Ok(Accepted),
+        Err(error) => refused(error),
     }
 }
 
@@ -39,262 +32,345 @@ fn answer_within(
     answer_to(alloc, text.as_slice())
 }
 
+// The first row whose text is answered otherwise between two others.
+fn wrong_row(
+    alloc: Global,
+    before: &[u8],
+    rows: &[Row],
+    after: &[u8],
+) -> Result<Option<usize>, AllocError> {
+    for (number, (text, wanted)) in rows.iter().enumerate() {
+        if answer_within(alloc, before, text, after)? != *wanted {
+            return Ok(Some(number));
+        }
+    }
+    Ok(None)
+}
+
+const WHOLE: &[Row] = &[
+    (b"struct Node { var next: Node; }\n", Accepted),
+    (b"", Syntax(1, 1)),
+    (b"struct Node { var next: Node; }\n@", Byte(32)),
+    (
+        b"struct Node { var next: Node; }\nprocedure p( { }",
+        Syntax(2, 14),
+    ),
+    (b"struct Node{var next:Node;}procedure p()", Syntax(1, 41)),
+    (b"struct Node{var next:Node;}procedure p();x", Syntax(1, 42)),
+    (b"struct Node{}", Accepted),
+    (b"struct Node{var a:b;var next:c;var d:Node;}", Accepted),
+    (b"struct Node{var var:b;}", Syntax(1, 17)),
+    (b"struct Node{var a:next;}", Syntax(1, 19)),
+    (b"//@\nstruct//(\n\tNode\r\n{ }//", Accepted),
+    (b"struct Node{}=", Syntax(1, 14)),
+];
+
 #[test]
 fn whole_texts(rt: HostRuntime) -> Result<(), AllocError> {
-    let rows: [(&[u8], Answer); 12] = [
-        (b"struct Node { var next: Node; }\n", Answer::Program),
-        (b"", Answer::Syntax(1, 1)),
-        (b"struct Node { var next: Node; }\n@", Answer::Byte(32)),
-        (
-            b"struct Node { var next: Node; }\nprocedure p( { }",
-            Answer::Syntax(2, 14),
-        ),
-        (
-            b"struct Node{var next:Node;}procedure p()",
-            Answer::Syntax(1, 41),
-        ),
-        (
-            b"struct Node{var next:Node;}procedure p();x",
-            Answer::Syntax(1, 42),
-        ),
-        (b"struct Node{}", Answer::Program),
-        (
-            b"struct Node{var a:b;var next:c;var d:Node;}",
-            Answer::Program,
-        ),
-        (b"struct Node{var var:b;}", Answer::Syntax(1, 17)),
-        (b"struct Node{var a:next;}", Answer::Syntax(1, 19)),
-        (b"//@\nstruct//(\n\tNode\r\n{ }//", Answer::Program),
-        (b"struct Node{}=", Answer::Syntax(1, 14)),
-    ];
-    for (text, wanted) in rows {
-        let found = answer_to(rt.alloc(), text)?;
-        assert!(rt; found == wanted);
-    }
+    assert_eq!(rt; wrong_row(rt.alloc(), b"", WHOLE, b"")?, None);
     Ok(())
 }
 
+const LINE: &[u8] = b"struct Node { var next: Node; }\n";
+
 // A sign that is no token, the ends of a text, and a word that is too long.
+const PLACES: &[Row] = &[
+    (b"procedure p() { x = null; }", Syntax(2, 19)),
+    (b"procedure p()\n", Syntax(3, 1)),
+    (b"procedure p()", Syntax(2, 14)),
+    (
+        b"procedure aaaaaaaaaaaaaaaaaaaaaaaaaaaaaaaaaaaaaaaaaaaaaaaaaaaaaaaaaaaaaaaaa",
+        Syntax(2, 11),
+    ),
+    (b"procedure p()&*{}", Syntax(2, 14)),
+    (b"procedure p(){x:=:=:=|-", Syntax(2, 18)),
+    (b"procedure //a\n/", Syntax(3, 1)),
+    (b"procedure 1a", Syntax(2, 11)),
+];
+
 #[test]
 fn places(rt: HostRuntime) -> Result<(), AllocError> {
-    let rows: [(&[u8], u32, u32); 8] = [
-        (b"procedure p() { x = null; }", 2, 19),
-        (b"procedure p()\n", 3, 1),
-        (b"procedure p()", 2, 14),
-        (
-            b"procedure aaaaaaaaaaaaaaaaaaaaaaaaaaaaaaaaaaaaaaaaaaaaaaaaaaaaaaaaaaaaaaaaa",
-            2,
-            11,
-        ),
-        (b"procedure p()&*{}", 2, 14),
-        (b"procedure p(){x:=:=:=|-", 2, 18),
-        (b"procedure //a\n/", 3, 1),
-        (b"procedure 1a", 2, 11),
-    ];
-    for (text, line, col) in rows {
-        let found = answer_within(rt.alloc(), b"struct Node { var next: Node; }\n", text, b"")?;
-        assert!(rt; found == Answer::Syntax(line, col));
-    }
+    assert_eq!(rt; wrong_row(rt.alloc(), LINE, PLACES, b"")?, None);
     Ok(())
 }
+
+// What comes after the word on the line before.
+const PROCEDURES: &[Row] = &[
+    (b"f();", Accepted),
+    (b"f()ensures emp||x==y&*&emp||acc(x){}", Accepted),
+    (b"f()requires emp||emp;", Syntax(2, 16)),
+    (b"f()ensures emp||;", Syntax(2, 17)),
+    (b"f()ensures (emp||emp);", Syntax(2, 16)),
+    (
+        b"f(x:Node,y:Node)returns(z:Node,w:Node)requires emp ensures x==y{}",
+        Accepted,
+    ),
+    (b"f()ensures emp;", Accepted),
+    (b"f()returns(){var x:Node;var y,z:Node;return;}", Accepted),
+    (b"f()ensures emp requires emp;", Syntax(2, 16)),
+    (b"f(x){}", Syntax(2, 4)),
+    (b"f(x:Node,){}", Syntax(2, 10)),
+    (b"f(){x:=y;var x:Node;}", Syntax(2, 10)),
+    (b"f(){var x;}", Syntax(2, 10)),
+    (b"f(){}}", Syntax(2, 6)),
+    (b"f(x:y){}", Syntax(2, 5)),
+    (b"f()requires x.next==y{}", Syntax(2, 19)),
+];
 
 #[test]
 fn procedures(rt: HostRuntime) -> Result<(), AllocError> {
-    let rows: [(&[u8], Answer); 16] = [
-        (b"f();", Answer::Program),
-        (b"f()ensures emp||x==y&*&emp||acc(x){}", Answer::Program),
-        (b"f()requires emp||emp;", Answer::Syntax(1, 16)),
-        (b"f()ensures emp||;", Answer::Syntax(1, 17)),
-        (b"f()ensures (emp||emp);", Answer::Syntax(1, 16)),
-        (
-            b"f(x:Node,y:Node)returns(z:Node,w:Node)requires emp ensures x==y{}",
-            Answer::Program,
-        ),
-        (b"f()ensures emp;", Answer::Program),
-        (
-            b"f()returns(){var x:Node;var y,z:Node;return;}",
-            Answer::Program,
-        ),
-        (b"f()ensures emp requires emp;", Answer::Syntax(1, 16)),
-        (b"f(x){}", Answer::Syntax(1, 4)),
-        (b"f(x:Node,){}", Answer::Syntax(1, 10)),
-        (b"f(){x:=y;var x:Node;}", Answer::Syntax(1, 10)),
-        (b"f(){var x;}", Answer::Syntax(1, 10)),
-        (b"f(){}}", Answer::Syntax(1, 6)),
-        (b"f(x:y){}", Answer::Syntax(1, 5)),
-        (b"f()requires x.next==y{}", Answer::Syntax(1, 19)),
-    ];
-    for (text, wanted) in rows {
-        let found = answer_within(rt.alloc(), b"struct Node{}procedure\n", text, b"")?;
-        let on_next_line = match wanted {
-            Answer::Syntax(_, col) => Answer::Syntax(2, col),
-            other => other,
-        };
-        assert!(rt; found == on_next_line);
-    }
+    let before = b"struct Node{}procedure\n";
+    assert_eq!(rt; wrong_row(rt.alloc(), before, PROCEDURES, b"")?, None);
     Ok(())
 }
+
+const STATEMENTS: &[Row] = &[
+    (b"x:=y;", Accepted),
+    (b"x:=null;", Accepted),
+    (b"x:=y.next;", Accepted),
+    (b"x:=new Node;", Accepted),
+    (b"x:=f();", Accepted),
+    (b"x:=f(y.next,null);", Accepted),
+    (b"x,y,z:=f(x);", Accepted),
+    (b"f();", Accepted),
+    (b"f(x,y);", Accepted),
+    (b"x.next:=y.next;", Accepted),
+    (b"free x;", Accepted),
+    (b"if(x==y.next){}", Accepted),
+    (b"if(!(x==y)||x!=y&&x==null){}else{x:=y;}", Accepted),
+    (
+        b"while(x!=null)invariant lseg(x,null)&*&acc(y){x:=x.next;}",
+        Accepted,
+    ),
+    (b"while((x!=null)){}", Accepted),
+    (b"return;return x,y.next;", Accepted),
+    (b"x;", Syntax(2, 2)),
+    (b"x:=;", Syntax(2, 4)),
+    (b"x:=y", Syntax(2, 5)),
+    (b"x:=new;", Syntax(2, 7)),
+    (b"x:=new Node", Syntax(2, 12)),
+    (b"x:=null();", Syntax(2, 8)),
+    (b"x:=y.next();", Syntax(2, 10)),
+    (b"x,y:=z;", Syntax(2, 7)),
+    (b"x,:=f();", Syntax(2, 3)),
+    (b"x,y:=new Node;", Syntax(2, 6)),
+    (b"f(x,);", Syntax(2, 5)),
+    (b"f(x", Syntax(2, 4)),
+    (b"x.foo:=y;", Syntax(2, 3)),
+    (b"x.next==y;", Syntax(2, 7)),
+    (b"free null;", Syntax(2, 6)),
+    (b"if(x==y)x:=y;", Syntax(2, 9)),
+    (b"if(x==y){}else x:=y;", Syntax(2, 16)),
+    (b"while(x==y)invariant{}", Syntax(2, 21)),
+    (b"while x==y{}", Syntax(2, 7)),
+    (b"return x y;", Syntax(2, 10)),
+];
 
 #[test]
 fn statements(rt: HostRuntime) -> Result<(), AllocError> {
-    let accepted: [&[u8]; 16] = [
-        b"x:=y;",
-        b"x:=null;",
-        b"x:=y.next;",
-        b"x:=new Node;",
-        b"x:=f();",
-        b"x:=f(y.next,null);",
-        b"x,y,z:=f(x);",
-        b"f();",
-        b"f(x,y);",
-        b"x.next:=y.next;",
-        b"free x;",
-        b"if(x==y.next){}",
-        b"if(!(x==y)||x!=y&&x==null){}else{x:=y;}",
-        b"while(x!=null)invariant lseg(x,null)&*&acc(y){x:=x.next;}",
-        b"while((x!=null)){}",
-        b"return;return x,y.next;",
-    ];
-    for text in accepted {
-        let found = answer_within(rt.alloc(), b"struct Node{}procedure p(){\n", text, b"}")?;
-        assert!(rt; found == Answer::Program);
-    }
-    let refused: [(&[u8], u32); 20] = [
-        (b"x;", 2),
-        (b"x:=;", 4),
-        (b"x:=y", 5),
-        (b"x:=new;", 7),
-        (b"x:=new Node", 12),
-        (b"x:=null();", 8),
-        (b"x:=y.next();", 10),
-        (b"x,y:=z;", 7),
-        (b"x,:=f();", 3),
-        (b"x,y:=new Node;", 6),
-        (b"f(x,);", 5),
-        (b"f(x", 4),
-        (b"x.foo:=y;", 3),
-        (b"x.next==y;", 7),
-        (b"free null;", 6),
-        (b"if(x==y)x:=y;", 9),
-        (b"if(x==y){}else x:=y;", 16),
-        (b"while(x==y)invariant{}", 21),
-        (b"while x==y{}", 7),
-        (b"return x y;", 10),
-    ];
-    for (text, col) in refused {
-        let found = answer_within(rt.alloc(), b"struct Node{}procedure p(){\n", text, b"}")?;
-        assert!(rt; found == Answer::Syntax(2, col));
-    }
+    let before = b"struct Node{}procedure p(){\n";
+    assert_eq!(rt; wrong_row(rt.alloc(), before, STATEMENTS, b"}")?, None);
     Ok(())
 }
 
-#[test]
-fn names(rt: HostRuntime) -> Result<(), AllocError> {
-    let reserved: [&[u8]; 19] = [
-        b"struct",
-        b"Node",
-        b"var",
-        b"next",
-        b"procedure",
-        b"returns",
-        b"requires",
-        b"ensures",
-        b"invariant",
-        b"if",
-        b"else",
-        b"while",
-        b"return",
-        b"new",
-        b"free",
-        b"null",
-        b"emp",
-        b"acc",
-        b"lseg",
-    ];
-    for word in reserved {
-        let found = answer_within(rt.alloc(), b"struct Node{}procedure ", word, b"();")?;
-        assert!(rt; found == Answer::Syntax(1, 24));
+const RESERVED: &[&[u8]] = &[
+    b"struct",
+    b"Node",
+    b"var",
+    b"next",
+    b"procedure",
+    b"returns",
+    b"requires",
+    b"ensures",
+    b"invariant",
+    b"if",
+    b"else",
+    b"while",
+    b"return",
+    b"new",
+    b"free",
+    b"null",
+    b"emp",
+    b"acc",
+    b"lseg",
+];
+
+// The first word that may name a procedure.
+fn wrong_word(alloc: Global, words: &[&[u8]]) -> Result<Option<usize>, AllocError> {
+    for (number, word) in words.iter().enumerate() {
+        if answer_within(alloc, b"struct Node{}procedure ", word, b"();")? != Syntax(1, 24) {
+            return Ok(Some(number));
+        }
     }
-    let long = [b'_'; 65];
-    let fits = answer_within(rt.alloc(), b"struct Node{}procedure ", &long[..64], b"();")?;
-    assert!(rt; fits == Answer::Program);
-    let too_long = answer_within(rt.alloc(), b"struct Node{}procedure ", &long, b"();")?;
-    assert!(rt; too_long == Answer::Syntax(1, 24));
+    Ok(None)
+}
+
+#[test]
+fn reserved_words(rt: HostRuntime) -> Result<(), AllocError> {
+    assert_eq!(rt; wrong_word(rt.alloc(), RESERVED)?, None);
     Ok(())
+}
+
+// The answer where a procedure's name has so many letters.
+fn answer_to_name(alloc: Global, count: usize) -> Result<Answer, AllocError> {
+    let name = vec![in alloc; b'_'; count]?;
+    answer_within(alloc, b"struct Node{}procedure ", name.as_slice(), b"();")
+}
+
+#[test]
+fn long_names(rt: HostRuntime) -> Result<(), AllocError> {
+    assert!(rt; answer_to_name(rt.alloc(), 64)? == Accepted);
+    assert!(rt; answer_to_name(rt.alloc(), 65)? == Syntax(1, 24));
+    Ok(())
+}
+
+// A text with brackets: how many are opened after what, what is inside, and how many are closed before what.
+#[derive(Clone, Copy)]
+struct Nested {
+    before: &'static [u8],
+    opened: usize,
+    inside: &'static [u8],
+    closed: usize,
+    after: &'static [u8],
+    wanted: Answer,
+}
+
+const DEPTHS: &[Nested] = &[
+    Nested {
+        before: b"struct Node{}procedure p(){if",
+        opened: 63,
+        inside: b"x==x",
+        closed: 63,
+        after: b"{}}",
+        wanted: Accepted,
+    },
+    Nested {
+        before: b"struct Node{}procedure p(){if",
+        opened: 64,
+        inside: b"",
+        closed: 0,
+        after: b"{}}",
+        wanted: Deep(1, 93),
+    },
+    Nested {
+        before: LINE,
+        opened: 65,
+        inside: b"",
+        closed: 0,
+        after: b"",
+        wanted: Deep(2, 65),
+    },
+    Nested {
+        before: b"",
+        opened: 70,
+        inside: b"@",
+        closed: 0,
+        after: b"",
+        wanted: Byte(70),
+    },
+    Nested {
+        before: b"))))",
+        opened: 68,
+        inside: b"",
+        closed: 0,
+        after: b"",
+        wanted: Syntax(1, 1),
+    },
+];
+
+// The brackets and what is inside.
+fn inner(alloc: Global, nested: &Nested) -> Result<Vec<u8>, AllocError> {
+    let mut text = vec![in alloc; b'('; nested.opened]?;
+    text.extend_from_slice(nested.inside)?;
+    for _bracket in 0..nested.closed {
+        text.push(b')')?;
+    }
+    Ok(text)
+}
+
+// The first text that is answered otherwise.
+fn wrong_depth(alloc: Global, all: &[Nested]) -> Result<Option<usize>, AllocError> {
+    for (number, nested) in all.iter().enumerate() {
+        let part = inner(alloc, nested)?;
+        let found = answer_within(alloc, nested.before, part.as_slice(), nested.after)?;
+        if found != nested.wanted {
+            return Ok(Some(number));
+        }
+    }
+    Ok(None)
 }
 
 #[test]
 fn depth(rt: HostRuntime) -> Result<(), AllocError> {
-    let opened = [b'('; 70];
-    let closed = [b')'; 70];
-    let mut inside = Vec::from_slice(rt.alloc(), &opened[..63])?;
-    inside.extend_from_slice(b"x==x")?;
-    inside.extend_from_slice(&closed[..63])?;
-    let fits = answer_within(
-        rt.alloc(),
-        b"struct Node{}procedure p(){if",
-        inside.as_slice(),
-        b"{}}",
-    )?;
-    assert!(rt; fits == Answer::Program);
-    let deep = answer_within(
-        rt.alloc(),
-        b"struct Node{}procedure p(){if",
-        &opened[..64],
-        b"{}}",
-    )?;
-    assert!(rt; deep == Answer::Deep(1, 93));
-    let alone = answer_within(
-        rt.alloc(),
-        b"struct Node { var next: Node; }\n",
-        &opened[..65],
-        b"",
-    )?;
-    assert!(rt; alone == Answer::Deep(2, 65));
-    let with_byte = answer_within(rt.alloc(), &opened, b"@", b"")?;
-    assert!(rt; with_byte == Answer::Byte(70));
-    let fallen = answer_within(rt.alloc(), &closed[..4], &opened[..68], b"")?;
-    assert!(rt; fallen == Answer::Syntax(1, 1));
+    assert_eq!(rt; wrong_depth(rt.alloc(), DEPTHS)?, None);
     Ok(())
+}
+
+// What comes after the first word of a procedure, and how it is printed; None where it is refused.
+type Tree = (&'static [u8], Option<&'static [u8]>);
+
+const TREES: &[Tree] = &[
+    (b"f ( ) { }", Some(b"f ( ) requires emp ensures emp { }")),
+    (
+        b"f()ensures x==y||emp&*&acc(x)||lseg(x,y);",
+        Some(b"f ( ) requires emp ensures x == y || emp &*& acc ( x ) || lseg ( x , y ) ;"),
+    ),
+    (
+        b"f(x:Node)returns(y:Node){var z:Node;if((x==z)){y:=x;}else{}return(x==z);}",
+        None,
+    ),
+    (
+        b"f()requires(x==y&*&emp)&*&lseg(x,y){x,y:=f(x.next);while(!(x==y)||(x==y&&y!=x))invariant emp{}}",
+        Some(
+            b"f ( ) requires ( x == y &*& emp ) &*& lseg ( x , y ) ensures emp { x , y := f ( x . next ) ; while ( ! ( x == y ) || ( x == y && y != x ) ) invariant emp { } }",
+        ),
+    ),
+    (
+        b"f();//)\nprocedure g(){if(x==null){free x;}else{x.next:=y;}}",
+        Some(
+            b"f ( ) requires emp ensures emp ; procedure g ( ) requires emp ensures emp { if ( x == null ) { free x ; } else { x . next := y ; } }",
+        ),
+    ),
+];
+
+// The text that is printed for a program, if the text of it is one.
+fn printed(alloc: Global, text: &[u8]) -> Result<Option<Text>, AllocError> {
+    if text.len() >= 2_000 {
+        return Err(AllocError);
+    }
+    match parse(alloc, text) {
+        Ok(program) => Ok(Some(print(alloc, &program)?)),
+        Err(_) => Ok(None),
+    }
+}
+
+// The same of what comes after the first word of a procedure.
+fn printed_after(alloc: Global, rest: &[u8]) -> Result<Option<Text>, AllocError> {
+    let mut text = Vec::from_slice(alloc, b"struct Node{var next:Node;}procedure ")?;
+    text.extend_from_slice(rest)?;
+    printed(alloc, text.as_slice())
+}
+
+// Whether a printed text is this one after the first word of a procedure.
+fn is_printed(alloc: Global, found: &Text, rest: &[u8]) -> Result<bool, AllocError> {
+    let mut wanted = Vec::from_slice(alloc, b"struct Node { var next : Node ; } procedure ")?;
+    wanted.extend_from_slice(rest)?;
+    wanted.push(b'\n')?;
+    Ok(found.bytes() == wanted.as_slice())
+}
+
+fn is_tree(alloc: Global, tree: Tree) -> Result<bool, AllocError> {
+    match (printed_after(alloc, tree.0)?, tree.1) {
+        (Some(found), Some(wanted)) => is_printed(alloc, &found, wanted),
+        (None, None) => Ok(true),
+        _ => Ok(false),
+    }
 }
 
 #[test]
 fn trees(rt: HostRuntime) -> Result<(), AllocError> {
-    let rows: [(&[u8], &[u8]); 5] = [
-        (b"f ( ) { }", b"f ( ) requires emp ensures emp { }"),
-        (
-            b"f()ensures x==y||emp&*&acc(x)||lseg(x,y);",
-            b"f ( ) requires emp ensures x == y || emp &*& acc ( x ) || lseg ( x , y ) ;",
-        ),
-        (
-            b"f(x:Node)returns(y:Node){var z:Node;if((x==z)){y:=x;}else{}return(x==z);}",
-            b"",
-        ),
-        (
-            b"f()requires(x==y&*&emp)&*&lseg(x,y){x,y:=f(x.next);while(!(x==y)||(x==y&&y!=x))invariant emp{}}",
-            b"f ( ) requires ( x == y &*& emp ) &*& lseg ( x , y ) ensures emp { x , y := f ( x . next ) ; while ( ! ( x == y ) || ( x == y && y != x ) ) invariant emp { } }",
-        ),
-        (
-            b"f();//)\nprocedure g(){if(x==null){free x;}else{x.next:=y;}}",
-            b"f ( ) requires emp ensures emp ; procedure g ( ) requires emp ensures emp { if ( x == null ) { free x ; } else { x . next := y ; } }",
-        ),
-    ];
-    for (text, wanted) in rows {
-        let mut whole = Vec::from_slice(rt.alloc(), b"struct Node{var next:Node;}procedure ")?;
-        whole.extend_from_slice(text)?;
-        assert!(rt; whole.len() < 2_000);
-        let mut printed = Vec::from_slice(
-            rt.alloc(),
-            b"struct Node { var next : Node ; } procedure ",
-        )?;
-        printed.extend_from_slice(wanted)?;
-        printed.extend_from_slice(b"\n")?;
-        if let Ok(program) = parse(rt.alloc(), whole.as_slice()) {
-            let found = print(rt.alloc(), &program)?;
-            assert!(rt; found.bytes() == printed.as_slice());
-        } else {
-            assert!(rt; wanted.is_empty());
-        }
+    for tree in TREES {
+        assert!(rt; is_tree(rt.alloc(), *tree)?);
     }
     Ok(())
 }

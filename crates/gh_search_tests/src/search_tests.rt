@@ -18,7 +18,6 @@ use gh_sat::learner::Learnt;
 use gh_sat::search::Search;
 use gh_sat::theory::Theory;
 use std::alloc::{AllocError, Global};
-use std::test::Fail;
 
 // The theory that makes one clause true: the last two definitions aren't both true.
 #[derive(Drop)]
@@ -225,26 +224,42 @@ fn answer(alloc: Global, ground: &Ground) -> Result<Option<bool>, AllocError> {
     Ok(Some(is_satisfiable(alloc, &mut search)?))
 }
 
-#[test]
-fn satisfiable(rt: HostRuntime) -> Result<(), Fail> {
-    let rows: [(u32, &[&[i32]], bool); 9] = [
-        (2, &[], true),
-        (2, &[&[]], false),
-        // chains of units
-        (6, &[&[1], &[-1, 2], &[-2, 3], &[-3, 4]], true),
-        (6, &[&[1], &[-1, 2], &[-2, 3], &[-3, -1]], false),
-        // each choice of two signs
-        (4, &[&[1, 2], &[1, -2], &[-1, 2]], true),
-        (4, &[&[1, 2], &[1, -2], &[-1, 2], &[-1, -2]], false),
-        // what the theory forbids
-        (3, &[&[2], &[1, 3]], true),
-        (3, &[&[2], &[3]], false),
-        (3, &[&[1, 2], &[1, 3], &[-1, 2], &[-1, 3]], false),
-    ];
-    for (number, (defs, clauses, wanted)) in rows.iter().enumerate() {
-        let ground = problem(rt.alloc(), *defs, clauses)?;
-        assert_eq!(rt; answer(rt.alloc(), &ground)?, Some(*wanted), "row {number}");
+// How many definitions there are, clauses by name over them, and whether an assignment makes these true.
+type Problem = (u32, &'static [&'static [i32]], bool);
+
+const PROBLEMS: &[Problem] = &[
+    (2, &[], true),
+    (2, &[&[]], false),
+    // chains of units
+    (6, &[&[1], &[-1, 2], &[-2, 3], &[-3, 4]], true),
+    (6, &[&[1], &[-1, 2], &[-2, 3], &[-3, -1]], false),
+    // each choice of two signs
+    (4, &[&[1, 2], &[1, -2], &[-1, 2]], true),
+    (4, &[&[1, 2], &[1, -2], &[-1, 2], &[-1, -2]], false),
+    // what the theory forbids
+    (3, &[&[2], &[1, 3]], true),
+    (3, &[&[2], &[3]], false),
+    (3, &[&[1, 2], &[1, 3], &[-1, 2], &[-1, 3]], false),
+];
+
+fn is_answered(alloc: Global, row: Problem) -> Result<bool, AllocError> {
+    let ground = problem(alloc, row.0, row.1)?;
+    Ok(answer(alloc, &ground)? == Some(row.2))
+}
+
+// The first problem with another answer.
+fn wrong_problem(alloc: Global, rows: &[Problem]) -> Result<Option<usize>, AllocError> {
+    for (number, row) in rows.iter().enumerate() {
+        if !is_answered(alloc, *row)? {
+            return Ok(Some(number));
+        }
     }
+    Ok(None)
+}
+
+#[test]
+fn satisfiable(rt: HostRuntime) -> Result<(), AllocError> {
+    assert!(rt; wrong_problem(rt.alloc(), PROBLEMS)? == None);
     Ok(())
 }
 
@@ -266,17 +281,21 @@ fn decided(alloc: Global, ground: &Ground) -> Result<Option<u32>, AllocError> {
     Ok(None)
 }
 
+// Clauses by name over thirty definitions, and how many decisions come before each of their atoms has a truth.
+type Needed = (&'static [&'static [i32]], u32);
+
 // Atoms that stand in no clause are never decided: none of thirty, and of one clause none but its own.
+const NEEDED: &[Needed] = &[(&[], 0), (&[&[1]], 0), (&[&[3, 4, 5]], 2)];
+
+fn is_needed(alloc: Global, row: Needed) -> Result<bool, AllocError> {
+    let ground = problem(alloc, 30, row.0)?;
+    Ok(decided(alloc, &ground)? == Some(row.1))
+}
+
 #[test]
-fn needed(rt: HostRuntime) -> Result<(), Fail> {
-    let rows: [(&[&[i32]], u32); 3] = [(&[], 0), (&[&[1]], 0), (&[&[3, 4, 5]], 2)];
-    for (number, (clauses, wanted)) in rows.iter().enumerate() {
-        let ground = problem(rt.alloc(), 30, clauses)?;
-        assert_eq!(rt;
-            decided(rt.alloc(), &ground)?,
-            Some(*wanted),
-            "row {number}"
-        );
+fn needed(rt: HostRuntime) -> Result<(), AllocError> {
+    for row in NEEDED {
+        assert!(rt; is_needed(rt.alloc(), *row)?);
     }
     Ok(())
 }
@@ -316,16 +335,20 @@ fn pigeons(alloc: Global, count: u8, holes: u8) -> Result<Ground, AllocError> {
     Ok(ground)
 }
 
+// How many pigeons and holes there are, and whether each pigeon has a hole.
+type Housing = (u8, u8, bool);
+
+const HOUSINGS: &[Housing] = &[(4, 4, true), (4, 3, false), (5, 5, true), (5, 4, false)];
+
+fn is_housing(alloc: Global, row: Housing) -> Result<bool, AllocError> {
+    let ground = pigeons(alloc, row.0, row.1)?;
+    Ok(answer(alloc, &ground)? == Some(row.2))
+}
+
 #[test]
-fn pigeonholes(rt: HostRuntime) -> Result<(), Fail> {
-    let rows = [(4, 4, true), (4, 3, false), (5, 5, true), (5, 4, false)];
-    for (count, holes, wanted) in rows {
-        let ground = pigeons(rt.alloc(), count, holes)?;
-        assert_eq!(rt;
-            answer(rt.alloc(), &ground)?,
-            Some(wanted),
-            "{count} in {holes}"
-        );
+fn pigeonholes(rt: HostRuntime) -> Result<(), AllocError> {
+    for row in HOUSINGS {
+        assert!(rt; is_housing(rt.alloc(), *row)?);
     }
     Ok(())
 }
@@ -362,13 +385,21 @@ fn refuting(alloc: Global, ground: &Ground) -> Result<Option<usize>, AllocError>
     Ok(is_shown.then_some(reasons.len()))
 }
 
+fn refuting_pigeons(alloc: Global) -> Result<Option<usize>, AllocError> {
+    let ground = pigeons(alloc, 5, 4)?;
+    refuting(alloc, &ground)
+}
+
+// Three clauses refute each other; the unit before them isn't needed.
+fn refuting_units(alloc: Global) -> Result<Option<usize>, AllocError> {
+    let ground = problem(alloc, 6, &[&[4], &[1], &[-1, 2], &[-2, -1]])?;
+    refuting(alloc, &ground)
+}
+
 #[test]
-fn refutations(rt: HostRuntime) -> Result<(), Fail> {
-    let pigeonhole = pigeons(rt.alloc(), 5, 4)?;
-    assert!(rt; refuting(rt.alloc(), &pigeonhole)?.is_some());
-    // three clauses refute each other; the unit before them isn't needed
-    let units = problem(rt.alloc(), 6, &[&[4], &[1], &[-1, 2], &[-2, -1]])?;
-    assert_eq!(rt; refuting(rt.alloc(), &units)?, Some(3));
+fn refutations(rt: HostRuntime) -> Result<(), AllocError> {
+    assert!(rt; refuting_pigeons(rt.alloc())?.is_some());
+    assert!(rt; refuting_units(rt.alloc())? == Some(3));
     Ok(())
 }
 
@@ -402,19 +433,19 @@ fn answer_of_pairs(
     answer(alloc, &ground)
 }
 
+// The signs of the last pair's clauses, and the answer.
+type Pairs = (&'static [[bool; 2]], bool);
+
+const PAIRS: &[Pairs] = &[
+    (&[[true, true]], true),
+    (&[[true, true], [true, false]], true),
+    (&[[true, true], [true, false], [false, true]], false),
+];
+
 #[test]
-fn many_pairs(rt: HostRuntime) -> Result<(), Fail> {
-    let rows: [(&[[bool; 2]], bool); 3] = [
-        (&[[true, true]], true),
-        (&[[true, true], [true, false]], true),
-        (&[[true, true], [true, false], [false, true]], false),
-    ];
-    for (last, wanted) in rows {
-        assert_eq!(rt;
-            answer_of_pairs(rt.alloc(), 150, last)?,
-            Some(wanted),
-            "{last:?}"
-        );
+fn many_pairs(rt: HostRuntime) -> Result<(), AllocError> {
+    for (last, wanted) in PAIRS {
+        assert!(rt; answer_of_pairs(rt.alloc(), 150, last)? == Some(*wanted));
     }
     Ok(())
 }
@@ -494,46 +525,47 @@ fn is_learnt(alloc: Global, lesson: &Lesson) -> Result<bool, AllocError> {
 
 // With few conflicts the order is fixed: the equality and the three atoms with a version are decided first, at levels 1
 // to 4, then the definitions from the first on, each made false.
+const LESSONS: &[Lesson] = &[
+    Lesson {
+        defs: 4,
+        clauses: &[&[1, 2], &[1, -2]],
+        learnt: &[1],
+        level: 0,
+        unit: 1,
+    },
+    // an example of several implication points: 1 is x9, 2 and 3 are the opposites of x12 and x13, 4 is
+    // x10, 5 is x11, 6 is the opposite of x1, and 7 to 13 are x2 to x8
+    Lesson {
+        defs: 15,
+        clauses: &[
+            &[6, 7],
+            &[6, 8, 1],
+            &[-7, -8, 9],
+            &[-9, 10, 4],
+            &[-9, 11, 5],
+            &[-10, -11],
+            &[-6, 12, 2],
+            &[-6, 13],
+            &[-12, -13, 3],
+        ],
+        learnt: &[-9, 4, 5],
+        level: 9,
+        unit: -9,
+    },
+    // a conflict of the theory
+    Lesson {
+        defs: 3,
+        clauses: &[&[1, 2], &[1, 3]],
+        learnt: &[1],
+        level: 0,
+        unit: 1,
+    },
+];
+
 #[test]
-fn lessons(rt: HostRuntime) -> Result<(), Fail> {
-    let lessons = [
-        Lesson {
-            defs: 4,
-            clauses: &[&[1, 2], &[1, -2]],
-            learnt: &[1],
-            level: 0,
-            unit: 1,
-        },
-        // an example of several implication points: 1 is x9, 2 and 3 are the opposites of x12 and x13, 4 is
-        // x10, 5 is x11, 6 is the opposite of x1, and 7 to 13 are x2 to x8
-        Lesson {
-            defs: 15,
-            clauses: &[
-                &[6, 7],
-                &[6, 8, 1],
-                &[-7, -8, 9],
-                &[-9, 10, 4],
-                &[-9, 11, 5],
-                &[-10, -11],
-                &[-6, 12, 2],
-                &[-6, 13],
-                &[-12, -13, 3],
-            ],
-            learnt: &[-9, 4, 5],
-            level: 9,
-            unit: -9,
-        },
-        // a conflict of the theory
-        Lesson {
-            defs: 3,
-            clauses: &[&[1, 2], &[1, 3]],
-            learnt: &[1],
-            level: 0,
-            unit: 1,
-        },
-    ];
-    for lesson in &lessons {
-        assert!(rt; is_learnt(rt.alloc(), lesson)?, "{:?}", lesson.learnt);
+fn lessons(rt: HostRuntime) -> Result<(), AllocError> {
+    for lesson in LESSONS {
+        assert!(rt; is_learnt(rt.alloc(), lesson)?);
     }
     Ok(())
 }
@@ -589,50 +621,93 @@ fn decided_of_pigeons(alloc: Global, lessons: u32) -> Result<Option<Lit>, AllocE
     decided_after(alloc, &mut search, lessons)
 }
 
+// Whether what is decided first after so many lessons on pigeons is a definition, and something is.
+fn decides_definition(alloc: Global, lessons: u32) -> Result<Option<bool>, AllocError> {
+    let lit = decided_of_pigeons(alloc, lessons)?;
+    Ok(lit.map(|lit| matches!(lit.atom, Atom::Def { .. })))
+}
+
 // The first decision is of the equality of the one term with itself; after fifty conflicts it is of a definition, since
 // these alone stood in conflicts.
 #[test]
-fn activities(rt: HostRuntime) -> Result<(), Fail> {
+fn activities(rt: HostRuntime) -> Result<(), AllocError> {
     for (lessons, wanted) in [(0, false), (10, false), (60, true)] {
-        let lit = decided_of_pigeons(rt.alloc(), lessons)?;
-        let is_definition = lit.map(|lit| matches!(lit.atom, Atom::Def { .. }));
-        assert_eq!(rt; is_definition, Some(wanted), "{lessons} lessons");
+        assert!(rt; decides_definition(rt.alloc(), lessons)? == Some(wanted));
     }
     Ok(())
 }
 
-// An equality of two terms, made false.
-fn unequal(a: u8, b: u8) -> Lit {
-    Lit {
-        atom: Atom::equal(Term(a), Term(b)),
-        positive: false,
-    }
-}
-
-// The term isn't allocated.
-fn unallocated(x: u8) -> Lit {
-    Lit {
-        atom: Atom::Alloc {
-            version: 0,
-            x: Term(x),
+const DECISIONS: &[(usize, Lit)] = &[
+    (
+        0,
+        Lit {
+            atom: Atom::Eq {
+                a: Term(0),
+                b: Term(0),
+            },
+            positive: false,
         },
-        positive: false,
-    }
-}
+    ),
+    (
+        1,
+        Lit {
+            atom: Atom::Eq {
+                a: Term(0),
+                b: Term(1),
+            },
+            positive: false,
+        },
+    ),
+    (
+        2,
+        Lit {
+            atom: Atom::Eq {
+                a: Term(1),
+                b: Term(1),
+            },
+            positive: false,
+        },
+    ),
+    (
+        3,
+        Lit {
+            atom: Atom::Alloc {
+                version: 0,
+                x: Term(1),
+            },
+            positive: false,
+        },
+    ),
+    (
+        4,
+        Lit {
+            atom: Atom::Alloc {
+                version: 0,
+                x: Term(0),
+            },
+            positive: false,
+        },
+    ),
+    // after them four atoms of contents and eight of segments
+    (
+        17,
+        Lit {
+            atom: Atom::Def { number: 0 },
+            positive: false,
+        },
+    ),
+    (
+        18,
+        Lit {
+            atom: Atom::Def { number: 1 },
+            positive: true,
+        },
+    ),
+];
 
 #[test]
-fn decisions(rt: HostRuntime) -> Result<(), Fail> {
-    let wanted = [
-        (0, unequal(0, 0)),
-        (1, unequal(0, 1)),
-        (2, unequal(1, 1)),
-        (3, unallocated(1)),
-        (4, unallocated(0)),
-        // after them four atoms of contents and eight of segments
-        (17, def(0, false)),
-        (18, def(1, true)),
-    ];
-    assert!(rt; stand(rt.alloc(), &wanted)?);
+fn decisions(rt: HostRuntime) -> Result<(), AllocError> {
+    assert!(rt; stand(rt.alloc(), DECISIONS)?);
     Ok(())
 }
 
@@ -655,21 +730,21 @@ fn level_with(alloc: Global, names: &[i32]) -> Result<Option<(u32, bool)>, Alloc
     Ok(Some((search.level(), conflict.is_some())))
 }
 
+// The names of a clause that is added, the level after it, and whether a clause is then false.
+type Added = (&'static [i32], u32, bool);
+
+const ADDED: &[Added] = &[
+    (&[-1, 2], 8, false),
+    (&[1, 2], 6, true),
+    (&[3, 2], 7, true),
+    (&[2], 6, true),
+    (&[], 0, true),
+];
+
 #[test]
-fn added(rt: HostRuntime) -> Result<(), Fail> {
-    let rows: [(&[i32], u32, bool); 5] = [
-        (&[-1, 2], 8, false),
-        (&[1, 2], 6, true),
-        (&[3, 2], 7, true),
-        (&[2], 6, true),
-        (&[], 0, true),
-    ];
-    for (names, level, is_false) in rows {
-        assert_eq!(rt;
-            level_with(rt.alloc(), names)?,
-            Some((level, is_false)),
-            "{names:?}"
-        );
+fn added(rt: HostRuntime) -> Result<(), AllocError> {
+    for (names, level, is_false) in ADDED {
+        assert!(rt; level_with(rt.alloc(), names)? == Some((*level, *is_false)));
     }
     Ok(())
 }

@@ -9,7 +9,6 @@ use gh_check::fault::{CheckError, FaultKind, LogFault};
 use gh_inst::naming::InstanceName;
 use gh_log::lines::{Lines, LogLine, Section};
 use std::alloc::{AllocError, Global};
-use std::test::Fail;
 
 // A clause in DIMACS form, its end filled with zeros: atoms 1 to 9 are definitions 0 to 8, 10 says that term 0 is
 // allocated, 11 that it leads to itself, 12 that it equals itself, and 13 is no atom of the ground clauses.
@@ -121,15 +120,11 @@ struct Row {
     fault: Option<(u8, u32)>,
 }
 
-// The place of the first row whose lines have another fault after some lines.
-fn wrong_row(
-    alloc: Global,
-    ground: &Ground,
-    before: &[Plain],
-    rows: &[Row],
-) -> Result<Option<usize>, CheckError> {
+// The place of the first row whose lines have another fault after some lines, over the clauses of one condition.
+fn wrong_row(alloc: Global, before: &[Plain], rows: &[Row]) -> Result<Option<usize>, CheckError> {
+    let ground = worked(alloc)?;
     for (place, row) in rows.iter().enumerate() {
-        if fault_of(alloc, ground, before, row.lines)? != row.fault {
+        if fault_of(alloc, &ground, before, row.lines)? != row.fault {
             return Ok(Some(place));
         }
     }
@@ -202,10 +197,8 @@ const CHANGED: &[Row] = &[
 ];
 
 #[test]
-fn changed_sections(rt: HostRuntime) -> Result<(), Fail> {
-    let alloc = rt.alloc();
-    let ground = worked(alloc)?;
-    assert_eq!(rt; wrong_row(alloc, &ground, &[], CHANGED)?, None);
+fn changed_sections(rt: HostRuntime) -> Result<(), CheckError> {
+    assert!(rt; wrong_row(rt.alloc(), &[], CHANGED)? == None);
     Ok(())
 }
 
@@ -274,10 +267,8 @@ const OTHERS: &[Row] = &[
 ];
 
 #[test]
-fn other_sections(rt: HostRuntime) -> Result<(), Fail> {
-    let alloc = rt.alloc();
-    let ground = worked(alloc)?;
-    assert_eq!(rt; wrong_row(alloc, &ground, &[], OTHERS)?, None);
+fn other_sections(rt: HostRuntime) -> Result<(), CheckError> {
+    assert!(rt; wrong_row(rt.alloc(), &[], OTHERS)? == None);
     Ok(())
 }
 
@@ -343,10 +334,8 @@ const HINTED: &[Row] = &[
 ];
 
 #[test]
-fn hinted_sections(rt: HostRuntime) -> Result<(), Fail> {
-    let alloc = rt.alloc();
-    let ground = worked(alloc)?;
-    assert_eq!(rt; wrong_row(alloc, &ground, REFUTED, HINTED)?, None);
+fn hinted_sections(rt: HostRuntime) -> Result<(), CheckError> {
+    assert!(rt; wrong_row(rt.alloc(), REFUTED, HINTED)? == None);
     Ok(())
 }
 
@@ -403,11 +392,15 @@ const DELETED: &[Row] = &[
 ];
 
 #[test]
-fn deleted_lines(rt: HostRuntime) -> Result<(), Fail> {
-    let alloc = rt.alloc();
-    let ground = worked(alloc)?;
-    assert_eq!(rt; wrong_row(alloc, &ground, REFUTED, DELETED)?, None);
+fn deleted_lines(rt: HostRuntime) -> Result<(), CheckError> {
+    assert!(rt; wrong_row(rt.alloc(), REFUTED, DELETED)? == None);
     Ok(())
+}
+
+// Whether a kind has this number, both ways.
+fn is_numbered(kind: FaultKind, number: u8) -> bool {
+    let fault = LogFault { number, line: 3 };
+    fault.kind() == kind && kind.number() == number
 }
 
 #[test]
@@ -421,11 +414,6 @@ fn kinds(rt: HostRuntime) {
         FaultKind::NoSuchLine,
     ];
     for (place, kind) in kinds.iter().enumerate() {
-        let fault = LogFault {
-            number: place as u8 + 1,
-            line: 3,
-        };
-        assert_eq!(rt; fault.kind(), *kind);
-        assert_eq!(rt; kind.number(), fault.number);
+        assert!(rt; is_numbered(*kind, place as u8 + 1));
     }
 }

@@ -12,62 +12,53 @@ use std::alloc::{AllocError, Global};
 
 const VERSION: u8 = 1;
 
-fn is(atom: Atom) -> Lit {
+// An atom in that version by the numbers of its terms, as the rows of tables write it.
+#[derive(Clone, Copy)]
+enum Plain {
+    Eq(u8, u8),
+    Btwn(u8, u8, u8),
+    Hop(u8, u8),
+    Alloc(u8),
+}
+
+use Plain::{Alloc, Btwn, Eq, Hop};
+
+// The atom, or where it is false its opposite.
+type Signed = (Plain, bool);
+
+fn lit_of(signed: Signed) -> Lit {
+    let atom = match signed.0 {
+        Eq(a, b) => Atom::Eq {
+            a: Term(a),
+            b: Term(b),
+        },
+        Btwn(x, y, z) => Atom::Btwn {
+            version: VERSION,
+            x: Term(x),
+            y: Term(y),
+            z: Term(z),
+        },
+        Hop(x, v) => Atom::Hop {
+            version: VERSION,
+            x: Term(x),
+            v: Term(v),
+        },
+        Alloc(x) => Atom::Alloc {
+            version: VERSION,
+            x: Term(x),
+        },
+    };
     Lit {
         atom,
-        positive: true,
+        positive: signed.1,
     }
 }
 
-fn not(atom: Atom) -> Lit {
-    Lit {
-        atom,
-        positive: false,
-    }
-}
+// A name: its row, its version, its arity and four terms.
+type Named = (u8, u8, u8, [u8; 4]);
 
-fn eq(a: u8, b: u8) -> Atom {
-    Atom::Eq {
-        a: Term(a),
-        b: Term(b),
-    }
-}
-
-fn btwn(version: u8, x: u8, y: u8, z: u8) -> Atom {
-    Atom::Btwn {
-        version,
-        x: Term(x),
-        y: Term(y),
-        z: Term(z),
-    }
-}
-
-fn b(x: u8, y: u8, z: u8) -> Atom {
-    btwn(VERSION, x, y, z)
-}
-
-fn hop(version: u8, x: u8, v: u8) -> Atom {
-    Atom::Hop {
-        version,
-        x: Term(x),
-        v: Term(v),
-    }
-}
-
-fn h(x: u8, v: u8) -> Atom {
-    hop(VERSION, x, v)
-}
-
-fn alloc(x: u8) -> Atom {
-    Atom::Alloc {
-        version: VERSION,
-        x: Term(x),
-    }
-}
-
-// A name, from its row, its version, its arity and four terms.
-fn name(row: u8, version: u8, arity: u8, terms: [u8; 4]) -> InstanceName {
-    let [a, b, c, d] = terms;
+fn name(named: Named) -> InstanceName {
+    let (row, version, arity, [a, b, c, d]) = named;
     InstanceName {
         row,
         version,
@@ -76,126 +67,184 @@ fn name(row: u8, version: u8, arity: u8, terms: [u8; 4]) -> InstanceName {
     }
 }
 
-// Whether the clause of an instance has these literals.
-fn has_clause(global: Global, name: InstanceName, lits: &[Lit]) -> bool {
-    match instance(global, name, 6, 2) {
-        None => false,
-        Some(clause) => clause.lits() == lits,
+// Whether an instance is that of a name, or there is none of either.
+fn is_named(found: Option<InstanceName>, named: Option<Named>) -> bool {
+    match (found, named) {
+        (Some(found), Some(named)) => found == name(named),
+        (None, None) => true,
+        _ => false,
     }
 }
+
+// A name, and the clause of its instance.
+type Row = (Named, &'static [Signed]);
+
+// Whether the clause of an instance has these literals.
+fn has_clause(global: Global, row: Row) -> bool {
+    match instance(global, name(row.0), 6, 2) {
+        None => false,
+        Some(clause) => {
+            clause.lits().len() == row.1.len()
+                && clause
+                    .lits()
+                    .iter()
+                    .zip(row.1)
+                    .all(|(lit, signed)| *lit == lit_of(*signed))
+        }
+    }
+}
+
+// The first row with another clause.
+fn wrong_row(global: Global, rows: &[Row]) -> Option<usize> {
+    for (number, row) in rows.iter().enumerate() {
+        if !has_clause(global, *row) {
+            return Some(number);
+        }
+    }
+    None
+}
+
+const ROWS: &[Row] = &[
+    ((1, VERSION, 1, [5, 0, 0, 0]), &[(Btwn(5, 5, 5), true)]),
+    (
+        (2, VERSION, 2, [5, 4, 0, 0]),
+        &[(Btwn(5, 4, 5), false), (Eq(4, 5), true)],
+    ),
+    (
+        (3, VERSION, 3, [5, 4, 3, 0]),
+        &[
+            (Btwn(5, 4, 4), false),
+            (Btwn(5, 3, 3), false),
+            (Btwn(5, 4, 3), true),
+            (Btwn(5, 3, 4), true),
+        ],
+    ),
+    (
+        (4, VERSION, 3, [5, 4, 3, 0]),
+        &[(Btwn(5, 4, 3), false), (Btwn(5, 4, 4), true)],
+    ),
+    (
+        (5, VERSION, 3, [5, 4, 3, 0]),
+        &[(Btwn(5, 4, 3), false), (Btwn(4, 3, 3), true)],
+    ),
+    (
+        (6, VERSION, 3, [5, 4, 3, 0]),
+        &[
+            (Btwn(5, 4, 4), false),
+            (Btwn(4, 3, 3), false),
+            (Btwn(5, 3, 3), true),
+        ],
+    ),
+    (
+        (7, VERSION, 4, [5, 4, 3, 2]),
+        &[
+            (Btwn(5, 4, 2), false),
+            (Btwn(4, 3, 2), false),
+            (Btwn(5, 4, 3), true),
+        ],
+    ),
+    (
+        (8, VERSION, 4, [5, 4, 3, 2]),
+        &[
+            (Btwn(5, 4, 2), false),
+            (Btwn(4, 3, 2), false),
+            (Btwn(5, 3, 2), true),
+        ],
+    ),
+    (
+        (9, VERSION, 4, [5, 4, 3, 2]),
+        &[
+            (Btwn(5, 4, 2), false),
+            (Btwn(5, 3, 4), false),
+            (Btwn(5, 3, 2), true),
+        ],
+    ),
+    (
+        (10, VERSION, 4, [5, 4, 3, 2]),
+        &[
+            (Btwn(5, 4, 2), false),
+            (Btwn(5, 3, 4), false),
+            (Btwn(3, 4, 2), true),
+        ],
+    ),
+    (
+        (11, VERSION, 2, [5, 4, 0, 0]),
+        &[(Hop(5, 4), false), (Btwn(5, 4, 4), true)],
+    ),
+    (
+        (12, VERSION, 3, [5, 4, 3, 0]),
+        &[
+            (Hop(5, 4), false),
+            (Btwn(5, 3, 3), false),
+            (Eq(3, 5), true),
+            (Btwn(5, 4, 3), true),
+        ],
+    ),
+    (
+        (13, VERSION, 2, [5, 4, 0, 0]),
+        &[(Alloc(5), true), (Btwn(5, 4, 4), false), (Eq(4, 5), true)],
+    ),
+    (
+        (14, VERSION, 2, [5, 4, 0, 0]),
+        &[(Hop(5, 5), false), (Btwn(5, 4, 4), false), (Eq(4, 5), true)],
+    ),
+    (
+        (15, VERSION, 2, [5, 4, 0, 0]),
+        &[(Hop(5, 4), false), (Alloc(5), true)],
+    ),
+];
 
 #[test]
 fn rows(rt: HostRuntime) {
-    let rows: [(u8, u8, [u8; 4], &[Lit]); 15] = [
-        (1, 1, [5, 0, 0, 0], &[is(b(5, 5, 5))]),
-        (2, 2, [5, 4, 0, 0], &[not(b(5, 4, 5)), is(eq(4, 5))]),
-        (
-            3,
-            3,
-            [5, 4, 3, 0],
-            &[
-                not(b(5, 4, 4)),
-                not(b(5, 3, 3)),
-                is(b(5, 4, 3)),
-                is(b(5, 3, 4)),
-            ],
-        ),
-        (4, 3, [5, 4, 3, 0], &[not(b(5, 4, 3)), is(b(5, 4, 4))]),
-        (5, 3, [5, 4, 3, 0], &[not(b(5, 4, 3)), is(b(4, 3, 3))]),
-        (
-            6,
-            3,
-            [5, 4, 3, 0],
-            &[not(b(5, 4, 4)), not(b(4, 3, 3)), is(b(5, 3, 3))],
-        ),
-        (
-            7,
-            4,
-            [5, 4, 3, 2],
-            &[not(b(5, 4, 2)), not(b(4, 3, 2)), is(b(5, 4, 3))],
-        ),
-        (
-            8,
-            4,
-            [5, 4, 3, 2],
-            &[not(b(5, 4, 2)), not(b(4, 3, 2)), is(b(5, 3, 2))],
-        ),
-        (
-            9,
-            4,
-            [5, 4, 3, 2],
-            &[not(b(5, 4, 2)), not(b(5, 3, 4)), is(b(5, 3, 2))],
-        ),
-        (
-            10,
-            4,
-            [5, 4, 3, 2],
-            &[not(b(5, 4, 2)), not(b(5, 3, 4)), is(b(3, 4, 2))],
-        ),
-        (11, 2, [5, 4, 0, 0], &[not(h(5, 4)), is(b(5, 4, 4))]),
-        (
-            12,
-            3,
-            [5, 4, 3, 0],
-            &[not(h(5, 4)), not(b(5, 3, 3)), is(eq(3, 5)), is(b(5, 4, 3))],
-        ),
-        (
-            13,
-            2,
-            [5, 4, 0, 0],
-            &[is(alloc(5)), not(b(5, 4, 4)), is(eq(4, 5))],
-        ),
-        (
-            14,
-            2,
-            [5, 4, 0, 0],
-            &[not(h(5, 5)), not(b(5, 4, 4)), is(eq(4, 5))],
-        ),
-        (15, 2, [5, 4, 0, 0], &[not(h(5, 4)), is(alloc(5))]),
-    ];
-    for (row, arity, terms, lits) in rows {
-        assert!(rt; has_clause(rt.alloc(), name(row, VERSION, arity, terms), lits));
-    }
+    assert!(rt; wrong_row(rt.alloc(), ROWS) == None);
 }
+
+const EQUAL_TERMS: &[Row] = &[
+    (
+        (2, VERSION, 2, [3, 3, 0, 0]),
+        &[(Btwn(3, 3, 3), false), (Eq(3, 3), true)],
+    ),
+    (
+        (7, VERSION, 4, [2, 2, 4, 2]),
+        &[
+            (Btwn(2, 2, 2), false),
+            (Btwn(2, 4, 2), false),
+            (Btwn(2, 2, 4), true),
+        ],
+    ),
+    (
+        (12, VERSION, 3, [1, 1, 1, 0]),
+        &[
+            (Hop(1, 1), false),
+            (Btwn(1, 1, 1), false),
+            (Eq(1, 1), true),
+            (Btwn(1, 1, 1), true),
+        ],
+    ),
+];
 
 #[test]
 fn equal_terms(rt: HostRuntime) {
-    let rows: [(u8, u8, [u8; 4], &[Lit]); 3] = [
-        (2, 2, [3, 3, 0, 0], &[not(b(3, 3, 3)), is(eq(3, 3))]),
-        (
-            7,
-            4,
-            [2, 2, 4, 2],
-            &[not(b(2, 2, 2)), not(b(2, 4, 2)), is(b(2, 2, 4))],
-        ),
-        (
-            12,
-            3,
-            [1, 1, 1, 0],
-            &[not(h(1, 1)), not(b(1, 1, 1)), is(eq(1, 1)), is(b(1, 1, 1))],
-        ),
-    ];
-    for (row, arity, terms, lits) in rows {
-        assert!(rt; has_clause(rt.alloc(), name(row, VERSION, arity, terms), lits));
-    }
+    assert!(rt; wrong_row(rt.alloc(), EQUAL_TERMS) == None);
 }
+
+const NONE: &[Named] = &[
+    (0, 1, 1, [0, 0, 0, 0]),
+    (16, 1, 2, [0, 0, 0, 0]),
+    (1, 1, 2, [0, 0, 0, 0]),
+    (7, 1, 3, [0, 0, 0, 0]),
+    (7, 1, 5, [0, 0, 0, 0]),
+    (1, 2, 1, [0, 0, 0, 0]),
+    (2, 1, 2, [0, 6, 0, 0]),
+    (7, 1, 4, [5, 5, 5, 6]),
+    (1, 1, 1, [0, 1, 0, 0]),
+    (6, 1, 3, [0, 0, 0, 2]),
+];
 
 #[test]
 fn no_instances(rt: HostRuntime) {
-    let rows = [
-        name(0, 1, 1, [0, 0, 0, 0]),
-        name(16, 1, 2, [0, 0, 0, 0]),
-        name(1, 1, 2, [0, 0, 0, 0]),
-        name(7, 1, 3, [0, 0, 0, 0]),
-        name(7, 1, 5, [0, 0, 0, 0]),
-        name(1, 2, 1, [0, 0, 0, 0]),
-        name(2, 1, 2, [0, 6, 0, 0]),
-        name(7, 1, 4, [5, 5, 5, 6]),
-        name(1, 1, 1, [0, 1, 0, 0]),
-        name(6, 1, 3, [0, 0, 0, 2]),
-    ];
-    for name in rows {
-        assert!(rt; instance(rt.alloc(), name, 6, 2).is_none());
+    for named in NONE {
+        assert!(rt; instance(rt.alloc(), name(*named), 6, 2).is_none());
     }
 }
 
@@ -207,31 +256,35 @@ fn count_of(terms: u8, versions: u8) -> u64 {
     count
 }
 
+// The numbers of terms, versions and instances.
+const COUNTS: &[(u8, u8, u64)] = &[
+    (0, 3, 0),
+    (3, 0, 0),
+    (1, 1, 15),
+    (2, 1, 126),
+    (2, 3, 378),
+    (3, 2, 1014),
+];
+
+// Places in the order over two terms and two versions.
+const PLACES: &[(usize, Option<Named>)] = &[
+    (0, Some((1, 0, 1, [0, 0, 0, 0]))),
+    (3, Some((1, 1, 1, [1, 0, 0, 0]))),
+    (4, Some((2, 0, 2, [0, 0, 0, 0]))),
+    (7, Some((2, 0, 2, [1, 1, 0, 0]))),
+    (25, Some((3, 1, 3, [1, 0, 1, 0]))),
+    (251, Some((15, 1, 2, [1, 1, 0, 0]))),
+    (252, None),
+];
+
 #[test]
 fn names_in_order(rt: HostRuntime) {
-    let counts = [
-        (0, 3, 0),
-        (3, 0, 0),
-        (1, 1, 15),
-        (2, 1, 126),
-        (2, 3, 378),
-        (3, 2, 1014),
-    ];
-    for (terms, versions, count) in counts {
-        assert!(rt; count_of(terms, versions) == count);
+    for (terms, versions, count) in COUNTS {
+        assert!(rt; count_of(*terms, *versions) == *count);
     }
-    let names = [
-        (0, name(1, 0, 1, [0, 0, 0, 0])),
-        (3, name(1, 1, 1, [1, 0, 0, 0])),
-        (4, name(2, 0, 2, [0, 0, 0, 0])),
-        (7, name(2, 0, 2, [1, 1, 0, 0])),
-        (25, name(3, 1, 3, [1, 0, 1, 0])),
-        (251, name(15, 1, 2, [1, 1, 0, 0])),
-    ];
-    for (place, name) in names {
-        assert!(rt; Instances::new(2, 2).nth(place) == Some(name));
+    for (place, named) in PLACES {
+        assert!(rt; is_named(Instances::new(2, 2).nth(*place), *named));
     }
-    assert!(rt; Instances::new(2, 2).nth(252).is_none());
 }
 
 // The structure of two terms in two classes and one version in which these atoms alone are true.
@@ -246,27 +299,55 @@ fn structure_of(global: Global, atoms: &[Atom]) -> Result<Structure, AllocError>
     Ok(structure)
 }
 
+// Each of the two terms reaches itself.
+const ZERO: Atom = Atom::Btwn {
+    version: 0,
+    x: Term(0),
+    y: Term(0),
+    z: Term(0),
+};
+
+const ONE: Atom = Atom::Btwn {
+    version: 0,
+    x: Term(1),
+    y: Term(1),
+    z: Term(1),
+};
+
+// The second leads to the first.
+const HOP: Atom = Atom::Hop {
+    version: 0,
+    x: Term(1),
+    v: Term(0),
+};
+
+// The first reaches the second.
+const REACHED: Atom = Atom::Btwn {
+    version: 0,
+    x: Term(0),
+    y: Term(1),
+    z: Term(1),
+};
+
+const VIOLATIONS: &[(&[Atom], Option<Named>)] = &[
+    (&[ZERO, ONE], None),
+    (&[ZERO], Some((1, 0, 1, [1, 0, 0, 0]))),
+    (&[ZERO, ONE, HOP], Some((11, 0, 2, [1, 0, 0, 0]))),
+    (&[], Some((1, 0, 1, [0, 0, 0, 0]))),
+    // two terms are met from one, in no order
+    (&[ZERO, ONE, REACHED], Some((3, 0, 3, [0, 0, 1, 0]))),
+];
+
+// Whether the first violation of a structure in which these atoms are true has this name.
+fn violates(global: Global, atoms: &[Atom], named: Option<Named>) -> Result<bool, AllocError> {
+    let structure = structure_of(global, atoms)?;
+    Ok(is_named(violated(&structure), named))
+}
+
 #[test]
 fn first_violations(rt: HostRuntime) -> Result<(), AllocError> {
-    let zero = btwn(0, 0, 0, 0);
-    let one = btwn(0, 1, 1, 1);
-    let rows: [(&[Atom], Option<InstanceName>); 5] = [
-        (&[zero, one], None),
-        (&[zero], Some(name(1, 0, 1, [1, 0, 0, 0]))),
-        (
-            &[zero, one, hop(0, 1, 0)],
-            Some(name(11, 0, 2, [1, 0, 0, 0])),
-        ),
-        (&[], Some(name(1, 0, 1, [0, 0, 0, 0]))),
-        // two terms are met from one, in no order
-        (
-            &[zero, one, btwn(0, 0, 1, 1)],
-            Some(name(3, 0, 3, [0, 0, 1, 0])),
-        ),
-    ];
-    for (atoms, expected) in rows {
-        let structure = structure_of(rt.alloc(), atoms)?;
-        assert!(rt; violated(&structure) == expected);
+    for (atoms, named) in VIOLATIONS {
+        assert!(rt; violates(rt.alloc(), atoms, *named)?);
     }
     Ok(())
 }
@@ -302,48 +383,108 @@ fn ordered_but<const N: usize>(global: Global, atom: Atom) -> Result<Structure, 
     Ok(structure)
 }
 
-// Whether both searches name this instance.
-fn both_name(global: Global, structure: &Structure, name: Option<InstanceName>) -> bool {
-    violated(structure) == name && violated_plainly(global, structure) == name
+// Whether both searches name this instance of the order but for one atom.
+fn both_name<const N: usize>(
+    global: Global,
+    atom: Atom,
+    named: Option<Named>,
+) -> Result<bool, AllocError>
+    requires some { 1 ≤ N }
+    requires few { N ≤ 40 }
+{
+    let structure = ordered_but::<N>(global, atom)?;
+    Ok(
+        is_named(violated(&structure), named)
+            && is_named(violated_plainly(global, &structure), named),
+    )
 }
+
+const OF_THREE: &[(Atom, Option<Named>)] = &[
+    (
+        Atom::Eq {
+            a: Term(0),
+            b: Term(0),
+        },
+        None,
+    ),
+    (
+        Atom::Btwn {
+            version: 1,
+            x: Term(0),
+            y: Term(2),
+            z: Term(2),
+        },
+        Some((5, 1, 3, [0, 0, 2, 0])),
+    ),
+    (
+        Atom::Hop {
+            version: 1,
+            x: Term(2),
+            v: Term(0),
+        },
+        Some((11, 1, 2, [2, 0, 0, 0])),
+    ),
+];
+
+const OF_MANY: &[(Atom, Option<Named>)] = &[
+    (
+        Atom::Btwn {
+            version: 1,
+            x: Term(32),
+            y: Term(32),
+            z: Term(32),
+        },
+        Some((1, 1, 1, [32, 0, 0, 0])),
+    ),
+    (
+        Atom::Btwn {
+            version: 1,
+            x: Term(5),
+            y: Term(20),
+            z: Term(32),
+        },
+        Some((3, 1, 3, [5, 20, 32, 0])),
+    ),
+];
 
 #[test]
 fn plain_walk(rt: HostRuntime) -> Result<(), AllocError> {
-    let rows = [
-        (eq(0, 0), None),
-        (btwn(1, 0, 2, 2), Some(name(5, 1, 3, [0, 0, 2, 0]))),
-        (hop(1, 2, 0), Some(name(11, 1, 2, [2, 0, 0, 0]))),
-    ];
-    for (atom, name) in rows {
-        let few = ordered_but::<3>(rt.alloc(), atom)?;
-        assert!(rt; both_name(rt.alloc(), &few, name));
+    for (atom, named) in OF_THREE {
+        assert!(rt; both_name::<3>(rt.alloc(), *atom, *named)?);
     }
-    let rows = [
-        (b(32, 32, 32), Some(name(1, 1, 1, [32, 0, 0, 0]))),
-        (b(5, 20, 32), Some(name(3, 1, 3, [5, 20, 32, 0]))),
-    ];
-    for (atom, name) in rows {
-        let many = ordered_but::<33>(rt.alloc(), atom)?;
-        assert!(rt; both_name(rt.alloc(), &many, name));
+    for (atom, named) in OF_MANY {
+        assert!(rt; both_name::<33>(rt.alloc(), *atom, *named)?);
     }
     Ok(())
 }
 
+// Atoms that are true, and the names of the false instances.
+const FALSE: &[(&[Atom], &[Named])] = &[
+    (&[ZERO], &[(1, 0, 1, [1, 0, 0, 0])]),
+    (&[ZERO, ONE], &[]),
+    (
+        &[ZERO, ONE, HOP],
+        &[(11, 0, 2, [1, 0, 0, 0]), (15, 0, 2, [1, 0, 0, 0])],
+    ),
+];
+
 // Whether the false instances of a structure in which these atoms are true have these names.
-fn are_false(global: Global, atoms: &[Atom], names: &[InstanceName]) -> Result<bool, AllocError> {
+fn are_false(global: Global, atoms: &[Atom], names: &[Named]) -> Result<bool, AllocError> {
     let structure = structure_of(global, atoms)?;
     let found = false_instances(global, &structure)?;
-    Ok(found.as_slice() == names)
+    Ok(
+        found.len() == names.len()
+            && found
+                .iter()
+                .zip(names)
+                .all(|(one, named)| *one == name(*named)),
+    )
 }
 
 #[test]
 fn false_ones(rt: HostRuntime) -> Result<(), AllocError> {
-    let itself = [btwn(0, 0, 0, 0), btwn(0, 1, 1, 1), hop(0, 1, 0)];
-    let first = name(1, 0, 1, [1, 0, 0, 0]);
-    let to_term = name(11, 0, 2, [1, 0, 0, 0]);
-    let to_cell = name(15, 0, 2, [1, 0, 0, 0]);
-    assert!(rt; are_false(rt.alloc(), &itself[..1], &[first])?);
-    assert!(rt; are_false(rt.alloc(), &itself[..2], &[])?);
-    assert!(rt; are_false(rt.alloc(), &itself, &[to_term, to_cell])?);
+    for (atoms, names) in FALSE {
+        assert!(rt; are_false(rt.alloc(), atoms, names)?);
+    }
     Ok(())
 }

@@ -66,107 +66,141 @@ fn log_of(alloc: Global, numbers: &[u32]) -> Result<Log, LogError>
     })
 }
 
+// Texts, and how many sections they have.
+const TEXTS: &[(&[u8], usize)] = &[
+    (LOG, 1),
+    (ALL, 3),
+    (b"grass log 1\n", 0),
+    (HINTED, 2),
+    (b"grass log 2\n", 0),
+];
+
 #[test]
 fn read_and_written(rt: HostRuntime) -> Result<(), LogError> {
-    assert!(rt; reads_back(rt.alloc(), LOG, 1)?);
-    assert!(rt; reads_back(rt.alloc(), ALL, 3)?);
-    assert!(rt; reads_back(rt.alloc(), b"grass log 1\n", 0)?);
-    assert!(rt; reads_back(rt.alloc(), HINTED, 2)?);
-    assert!(rt; reads_back(rt.alloc(), b"grass log 2\n", 0)?);
+    for (text, sections) in TEXTS {
+        assert!(rt; reads_back(rt.alloc(), text, *sections)?);
+    }
     Ok(())
+}
+
+// Whether the log of two ground clauses is written like this.
+fn is_written(alloc: Global, text: &[u8]) -> Result<bool, LogError> {
+    let log = log_of(alloc, &[3, 10])?;
+    let written = write_log(alloc, &log)?;
+    Ok(written.bytes() == text)
 }
 
 #[test]
 fn places_are_not_written(rt: HostRuntime) -> Result<(), LogError> {
-    let log = log_of(rt.alloc(), &[3, 10])?;
-    let text = write_log(rt.alloc(), &log)?;
-    assert!(rt; text.bytes() == GROUND);
+    assert!(rt; is_written(rt.alloc(), GROUND)?);
     Ok(())
+}
+
+// Whether the sections begin at these lines and have so many.
+fn stand(alloc: Global, text: &[u8], places: &[(u32, usize)]) -> Result<bool, LogError> {
+    if text.len() > 1000 {
+        return Ok(false);
+    }
+    let log = read_log(alloc, text)?;
+    if log.sections.len() != places.len() {
+        return Ok(false);
+    }
+    for (section, (first, lines)) in log.sections.iter().zip(places.iter()) {
+        if section.first != *first || section.lines.len() != *lines {
+            return Ok(false);
+        }
+    }
+    Ok(true)
 }
 
 #[test]
 fn places_of_sections(rt: HostRuntime) -> Result<(), LogError> {
-    assert!(rt; ALL.len() < 1000);
-    let log = read_log(rt.alloc(), ALL)?;
-    let wanted = [(3, 5), (9, 0), (10, 1)];
-    assert!(rt; log.sections.len() == 3);
-    for (section, (first, lines)) in log.sections.iter().zip(wanted.iter()) {
-        assert!(rt; section.first == *first && section.lines.len() == *lines);
-    }
+    assert!(rt; stand(rt.alloc(), ALL, &[(3, 5), (9, 0), (10, 1)])?);
     Ok(())
 }
 
+// A text, and the line of its first fault.
+type Outside = (&'static [u8], u32);
+
+// The first text with another line.
+fn wrong_text(alloc: Global, rows: &[Outside]) -> Option<usize> {
+    for (number, (text, line)) in rows.iter().enumerate() {
+        if first_outside(alloc, text) != *line {
+            return Some(number);
+        }
+    }
+    None
+}
+
+const OUTSIDE: &[Outside] = &[
+    (b"", 1),
+    (b"grass log 1", 1),
+    (b"grass log 1\ng 0\n", 2),
+    (b"grass log 1\n\n", 2),
+    (b"grass log 1\ncondition 2\ng 0\n", 2),
+    (b"grass log 1\ncondition 01\n", 2),
+    (b"grass log 1\ncondition 1", 2),
+    (b"grass log 1\ncondition 1 \n", 2),
+    (b"grass log 1\ncondition 1\ng 00\n", 3),
+    (b"grass log 1\ncondition 1\ng 4294967296\n", 3),
+    (b"grass log 1\ncondition 1\ng 10000000000\n", 3),
+    (b"grass log 1\ncondition 1\ng  0\n", 3),
+    (b"grass log 1\ncondition 1\ng 0 \n", 3),
+    (b"grass log 1\ncondition 1\ng -1\n", 3),
+    (b"grass log 1\ncondition 1\ng\n", 3),
+    (b"grass log 1\ncondition 1\ng 0\nl", 4),
+    (b"grass log 1\ncondition 1\ng 0\nl \n", 4),
+    (b"grass log 1\ncondition 1\nl E.1.0\n", 3),
+    (b"grass log 1\ncondition 1\nl E.0.256\n", 3),
+    (b"grass log 1\ncondition 1\nl E.0.1.2\n", 3),
+    (b"grass log 1\ncondition 1\nl --E.0.1\n", 3),
+    (b"grass log 1\ncondition 1\nl A.0.1  A.0.1\n", 3),
+    (b"grass log 1\ncondition 1\nl B.256.0.1.2\n", 3),
+    (b"grass log 1\ncondition 1\nl B.0.1.2\n", 3),
+    (b"grass log 1\ncondition 1\nl H.0.1\n", 3),
+    (b"grass log 1\ncondition 1\nl A.0\n", 3),
+    (b"grass log 1\ncondition 1\nl D.4294967296\n", 3),
+    (b"grass log 1\ncondition 1\nl C.0\n", 3),
+    (b"grass log 1\ncondition 1\nx\n", 3),
+    (b"grass log 1\ncondition 1\na 1 0\n", 3),
+    (b"grass log 1\ncondition 1\na 1 0 1 2 3 4 5\n", 3),
+    (b"grass log 1\ncondition 1\na 256 0 1\n", 3),
+    (b"grass log 1\ncondition 1\na 1 0 01\n", 3),
+    (b"grass log 1\ncondition 1\nl\ncondition 1\n", 4),
+    (b"grass log 1\ncondition 1\nl\r\n", 3),
+];
+
 #[test]
 fn outside_the_grammar(rt: HostRuntime) {
-    let rows: [(&[u8], u32); 35] = [
-        (b"", 1),
-        (b"grass log 1", 1),
-        (b"grass log 1\ng 0\n", 2),
-        (b"grass log 1\n\n", 2),
-        (b"grass log 1\ncondition 2\ng 0\n", 2),
-        (b"grass log 1\ncondition 01\n", 2),
-        (b"grass log 1\ncondition 1", 2),
-        (b"grass log 1\ncondition 1 \n", 2),
-        (b"grass log 1\ncondition 1\ng 00\n", 3),
-        (b"grass log 1\ncondition 1\ng 4294967296\n", 3),
-        (b"grass log 1\ncondition 1\ng 10000000000\n", 3),
-        (b"grass log 1\ncondition 1\ng  0\n", 3),
-        (b"grass log 1\ncondition 1\ng 0 \n", 3),
-        (b"grass log 1\ncondition 1\ng -1\n", 3),
-        (b"grass log 1\ncondition 1\ng\n", 3),
-        (b"grass log 1\ncondition 1\ng 0\nl", 4),
-        (b"grass log 1\ncondition 1\ng 0\nl \n", 4),
-        (b"grass log 1\ncondition 1\nl E.1.0\n", 3),
-        (b"grass log 1\ncondition 1\nl E.0.256\n", 3),
-        (b"grass log 1\ncondition 1\nl E.0.1.2\n", 3),
-        (b"grass log 1\ncondition 1\nl --E.0.1\n", 3),
-        (b"grass log 1\ncondition 1\nl A.0.1  A.0.1\n", 3),
-        (b"grass log 1\ncondition 1\nl B.256.0.1.2\n", 3),
-        (b"grass log 1\ncondition 1\nl B.0.1.2\n", 3),
-        (b"grass log 1\ncondition 1\nl H.0.1\n", 3),
-        (b"grass log 1\ncondition 1\nl A.0\n", 3),
-        (b"grass log 1\ncondition 1\nl D.4294967296\n", 3),
-        (b"grass log 1\ncondition 1\nl C.0\n", 3),
-        (b"grass log 1\ncondition 1\nx\n", 3),
-        (b"grass log 1\ncondition 1\na 1 0\n", 3),
-        (b"grass log 1\ncondition 1\na 1 0 1 2 3 4 5\n", 3),
-        (b"grass log 1\ncondition 1\na 256 0 1\n", 3),
-        (b"grass log 1\ncondition 1\na 1 0 01\n", 3),
-        (b"grass log 1\ncondition 1\nl\ncondition 1\n", 4),
-        (b"grass log 1\ncondition 1\nl\r\n", 3),
-    ];
-    for (text, line) in rows {
-        assert!(rt; first_outside(rt.alloc(), text) == line);
-    }
+    assert!(rt; wrong_text(rt.alloc(), OUTSIDE) == None);
 }
+
+const HINTED_OUTSIDE: &[Outside] = &[
+    (b"grass log 0\n", 1),
+    (b"grass log 3\n", 1),
+    (b"grass log 02\n", 1),
+    (b"grass log 2 \n", 1),
+    (b"grass log 2", 1),
+    (b"grass log 1\ncondition 1\nd 1\n", 3),
+    (b"grass log 1\ncondition 1\nd\n", 3),
+    (b"grass log 1\ncondition 1\nl ;\n", 3),
+    (b"grass log 1\ncondition 1\nl ; 1\n", 3),
+    (b"grass log 2\ncondition 1\nl\n", 3),
+    (b"grass log 2\ncondition 1\nl E.0.0\n", 3),
+    (b"grass log 2\ncondition 1\nl;\n", 3),
+    (b"grass log 2\ncondition 1\nl  ;\n", 3),
+    (b"grass log 2\ncondition 1\nl ;1\n", 3),
+    (b"grass log 2\ncondition 1\nl E.0.0 ;01\n", 3),
+    (b"grass log 2\ncondition 1\nl E.0.0 ; 01\n", 3),
+    (b"grass log 2\ncondition 1\nl ; 4294967296\n", 3),
+    (b"grass log 2\ncondition 1\nl ; 1 E.0.0\n", 3),
+    (b"grass log 2\ncondition 1\nl ; ; 1\n", 3),
+    (b"grass log 2\ncondition 1\ng 0\nd 4294967296\n", 4),
+    (b"grass log 2\ncondition 1\nd 1 \n", 3),
+    (b"grass log 2\ncondition 1\nd 1\nd 2", 4),
+];
 
 #[test]
 fn outside_the_second_version(rt: HostRuntime) {
-    let rows: [(&[u8], u32); 22] = [
-        (b"grass log 0\n", 1),
-        (b"grass log 3\n", 1),
-        (b"grass log 02\n", 1),
-        (b"grass log 2 \n", 1),
-        (b"grass log 2", 1),
-        (b"grass log 1\ncondition 1\nd 1\n", 3),
-        (b"grass log 1\ncondition 1\nd\n", 3),
-        (b"grass log 1\ncondition 1\nl ;\n", 3),
-        (b"grass log 1\ncondition 1\nl ; 1\n", 3),
-        (b"grass log 2\ncondition 1\nl\n", 3),
-        (b"grass log 2\ncondition 1\nl E.0.0\n", 3),
-        (b"grass log 2\ncondition 1\nl;\n", 3),
-        (b"grass log 2\ncondition 1\nl  ;\n", 3),
-        (b"grass log 2\ncondition 1\nl ;1\n", 3),
-        (b"grass log 2\ncondition 1\nl E.0.0 ;01\n", 3),
-        (b"grass log 2\ncondition 1\nl E.0.0 ; 01\n", 3),
-        (b"grass log 2\ncondition 1\nl ; 4294967296\n", 3),
-        (b"grass log 2\ncondition 1\nl ; 1 E.0.0\n", 3),
-        (b"grass log 2\ncondition 1\nl ; ; 1\n", 3),
-        (b"grass log 2\ncondition 1\ng 0\nd 4294967296\n", 4),
-        (b"grass log 2\ncondition 1\nd 1 \n", 3),
-        (b"grass log 2\ncondition 1\nd 1\nd 2", 4),
-    ];
-    for (text, line) in rows {
-        assert!(rt; first_outside(rt.alloc(), text) == line);
-    }
+    assert!(rt; wrong_text(rt.alloc(), HINTED_OUTSIDE) == None);
 }

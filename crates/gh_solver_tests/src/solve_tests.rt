@@ -17,11 +17,10 @@ use gh_log::lines::{LogLine, Section};
 use gh_seek::known::Known;
 use gh_seek::seek::{Found, seek};
 use std::alloc::{AllocError, Global};
-use std::test::Fail;
 
 // What a ground was found to be, and of how many lines how many were learnt. Wrong: the structure isn't a model, or the
 // section isn't valid.
-#[derive(Clone, Copy, Debug, PartialEq, Eq)]
+#[derive(Clone, Copy, PartialEq, Eq)]
 enum Verdict {
     Model,
     Refuted { lines: usize, learnt: usize },
@@ -197,21 +196,29 @@ const WORKED: [&[i8]; 25] = [
     &[-16],
 ];
 
-// A ground with them.
-pub(crate) fn worked(alloc: Global) -> Result<Ground, AllocError> {
+// A ground with some of them.
+fn worked_of(alloc: Global, rows: &[&[i8]]) -> Result<Ground, AllocError> {
     let mut ground = empty(alloc, 0, 9);
-    push_all(alloc, &mut ground, &WORKED)?;
+    push_all(alloc, &mut ground, rows)?;
     Ok(ground)
+}
+
+// A ground with all of them.
+pub(crate) fn worked(alloc: Global) -> Result<Ground, AllocError> {
+    worked_of(alloc, &WORKED)
+}
+
+// What is found of a ground with some of them.
+fn decided_of(alloc: Global, rows: &[&[i8]]) -> Result<Verdict, AllocError> {
+    let ground = worked_of(alloc, rows)?;
+    decided(alloc, &ground)
 }
 
 // Without the last one they have a model.
 #[test]
-fn worked_condition(rt: HostRuntime) -> Result<(), Fail> {
-    let mut ground = empty(rt.alloc(), 0, 9);
-    push_all(rt.alloc(), &mut ground, &WORKED[..24])?;
-    assert_eq!(rt; decided(rt.alloc(), &ground)?, Verdict::Model);
-    push_all(rt.alloc(), &mut ground, &WORKED[24..])?;
-    assert!(rt; is_refuted(rt.alloc(), &ground)?);
+fn worked_condition(rt: HostRuntime) -> Result<(), AllocError> {
+    assert!(rt; decided_of(rt.alloc(), &WORKED[..24])? == Verdict::Model);
+    assert!(rt; matches!(decided_of(rt.alloc(), &WORKED)?, Verdict::Refuted { .. }));
     Ok(())
 }
 
@@ -255,15 +262,20 @@ fn pairs(alloc: Global) -> Result<Ground, AllocError> {
 
 // What was decided about other pairs isn't tried again, and their clauses have no lines: there are four clauses beside
 // the lines that were learnt.
+fn are_lessons_few(alloc: Global) -> Result<bool, AllocError> {
+    let ground = pairs(alloc)?;
+    if ground.count() != 44 {
+        return Ok(false);
+    }
+    match decided(alloc, &ground)? {
+        Verdict::Refuted { lines, learnt } => Ok(learnt <= 3 && lines <= learnt.saturating_add(4)),
+        _ => Ok(false),
+    }
+}
+
 #[test]
-fn lessons_are_few(rt: HostRuntime) -> Result<(), Fail> {
-    let ground = pairs(rt.alloc())?;
-    assert_eq!(rt; ground.count(), 44);
-    let is_short = match decided(rt.alloc(), &ground)? {
-        Verdict::Refuted { lines, learnt } => learnt <= 3 && lines <= learnt.saturating_add(4),
-        _ => false,
-    };
-    assert!(rt; is_short);
+fn lessons_are_few(rt: HostRuntime) -> Result<(), AllocError> {
+    assert!(rt; are_lessons_few(rt.alloc())?);
     Ok(())
 }
 
@@ -291,6 +303,16 @@ fn chain(alloc: Global, last: u8) -> Result<Ground, AllocError>
     Ok(ground)
 }
 
+// The same, where the last one isn't reached by the first.
+fn broken_chain(alloc: Global, last: u8) -> Result<Ground, AllocError>
+    requires { last < 255 }
+{
+    let mut ground = chain(alloc, last)?;
+    let unreached = [between(0, last, last, false)];
+    push(&mut ground, Clause::from_lits(alloc, &unreached)?)?;
+    Ok(ground)
+}
+
 // Whether a section was found that the checker takes.
 fn is_section(alloc: Global, ground: &Ground, found: Found) -> bool {
     match found {
@@ -304,28 +326,40 @@ fn is_section(alloc: Global, ground: &Ground, found: Found) -> bool {
     }
 }
 
+fn are_truths_found(alloc: Global) -> Result<bool, AllocError> {
+    let ground = chain(alloc, 5)?;
+    let found = seek(alloc, &ground, &mut Known::new())?;
+    Ok(matches!(found, Found::Truths(_)))
+}
+
+fn is_section_found(alloc: Global) -> Result<bool, AllocError> {
+    let ground = broken_chain(alloc, 5)?;
+    let found = seek(alloc, &ground, &mut Known::new())?;
+    Ok(is_section(alloc, &ground, found))
+}
+
 // The search that is asked first finds truths for a chain, and a section where its end isn't reached.
 #[test]
-fn what_is_found_first(rt: HostRuntime) -> Result<(), Fail> {
-    let mut ground = chain(rt.alloc(), 5)?;
-    let found = seek(rt.alloc(), &ground, &mut Known::new())?;
-    assert!(rt; matches!(found, Found::Truths(_)));
-    let unreached = [between(0, 5, 5, false)];
-    push(&mut ground, Clause::from_lits(rt.alloc(), &unreached)?)?;
-    let found = seek(rt.alloc(), &ground, &mut Known::new())?;
-    assert!(rt; is_section(rt.alloc(), &ground, found));
+fn what_is_found_first(rt: HostRuntime) -> Result<(), AllocError> {
+    assert!(rt; are_truths_found(rt.alloc())?);
+    assert!(rt; is_section_found(rt.alloc())?);
     Ok(())
+}
+
+// Whether a chain has a model, and none where its end isn't reached.
+fn is_reached(alloc: Global, last: u8) -> Result<bool, AllocError>
+    requires { last < 255 }
+{
+    let whole = chain(alloc, last)?;
+    let broken = broken_chain(alloc, last)?;
+    Ok(decided(alloc, &whole)? == Verdict::Model && is_refuted(alloc, &broken)?)
 }
 
 // The last one is reached by the first.
 #[test]
-fn chains(rt: HostRuntime) -> Result<(), Fail> {
+fn chains(rt: HostRuntime) -> Result<(), AllocError> {
     for last in 1..10 {
-        let mut ground = chain(rt.alloc(), last)?;
-        assert_eq!(rt; decided(rt.alloc(), &ground)?, Verdict::Model);
-        let unreached = [between(0, last, last, false)];
-        push(&mut ground, Clause::from_lits(rt.alloc(), &unreached)?)?;
-        assert!(rt; is_refuted(rt.alloc(), &ground)?);
+        assert!(rt; is_reached(rt.alloc(), last)?);
     }
     Ok(())
 }
@@ -341,25 +375,30 @@ fn is_refuted_over(alloc: Global, rows: &[&[i8]]) -> Result<bool, AllocError> {
 }
 
 // What equality and congruence refute over three terms.
-#[test]
-fn equalities(rt: HostRuntime) -> Result<(), Fail> {
-    let rows: [(&[&[i8]], bool); 9] = [
-        (&[], false),
-        (&[&[]], true),
-        (&[&[3], &[5], &[-4]], true),
-        (&[&[3], &[-5], &[-4]], false),
-        (&[&[1], &[-6]], false),
-        (&[&[3], &[1], &[-6]], true),
-        (&[&[3], &[2], &[-7]], true),
-        (&[&[3, 4], &[5], &[-3]], true),
-        (&[&[3, 8], &[-8, 3], &[4, 9], &[-9, 5], &[-4, -5]], true),
-    ];
+const EQUALITIES: &[(&[&[i8]], bool)] = &[
+    (&[], false),
+    (&[&[]], true),
+    (&[&[3], &[5], &[-4]], true),
+    (&[&[3], &[-5], &[-4]], false),
+    (&[&[1], &[-6]], false),
+    (&[&[3], &[1], &[-6]], true),
+    (&[&[3], &[2], &[-7]], true),
+    (&[&[3, 4], &[5], &[-3]], true),
+    (&[&[3, 8], &[-8, 3], &[4, 9], &[-9, 5], &[-4, -5]], true),
+];
+
+// The first row that is answered otherwise.
+fn wrong_row(alloc: Global, rows: &[(&[&[i8]], bool)]) -> Result<Option<usize>, AllocError> {
     for (number, (clauses, wanted)) in rows.iter().enumerate() {
-        assert_eq!(rt;
-            is_refuted_over(rt.alloc(), clauses)?,
-            *wanted,
-            "row {number}"
-        );
+        if is_refuted_over(alloc, clauses)? != *wanted {
+            return Ok(Some(number));
+        }
     }
+    Ok(None)
+}
+
+#[test]
+fn equalities(rt: HostRuntime) -> Result<(), AllocError> {
+    assert!(rt; wrong_row(rt.alloc(), EQUALITIES)? == None);
     Ok(())
 }

@@ -9,7 +9,7 @@ use gh_entail::answer::{Entailment, decide_question};
 use std::alloc::{AllocError, Global};
 
 // What is found: the question is entailed, or fails in a heap with so many cells, or isn't admitted.
-#[derive(Clone, Copy, Debug, PartialEq, Eq)]
+#[derive(Clone, Copy, PartialEq, Eq)]
 enum Found {
     Entailed,
     Cells(usize),

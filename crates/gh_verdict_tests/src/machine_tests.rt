@@ -121,80 +121,92 @@ fn comes(alloc: Global, run: &Run) -> Result<bool, AllocError> {
     }
 }
 
+// The first run that comes to something else.
+fn wrong_run(alloc: Global, runs: &[Run<'_>]) -> Result<Option<usize>, AllocError> {
+    for (number, run) in runs.iter().enumerate() {
+        if !comes(alloc, run)? {
+            return Ok(Some(number));
+        }
+    }
+    Ok(None)
+}
+
 const ANY: Chosen<'static> = (9, 0, &[]);
+
+const READ: Run<'static> = Run {
+    text: SECOND,
+    arguments: &[1],
+    starts: &[7],
+    cells: &[(1, 0)],
+    choices: &[ANY],
+    next: Next::Moved,
+    values: &[1, 0],
+    after: &[(1, 0)],
+};
+
+const ENDED: Run<'static> = Run {
+    choices: &[ANY, ANY],
+    next: Next::Ended,
+    ..READ
+};
+
+const FREED: Run<'static> = Run {
+    text: REUSE,
+    arguments: &[1],
+    starts: &[9],
+    cells: &[(1, 0), (2, 3)],
+    choices: &[ANY],
+    next: Next::Moved,
+    values: &[1, 9],
+    after: &[(2, 3)],
+};
+
+const READS: &[Run<'static>] = &[
+    READ,
+    ENDED,
+    // a further step changes nothing
+    Run {
+        choices: &[ANY, ANY, ANY],
+        ..ENDED
+    },
+    Run {
+        arguments: &[0],
+        cells: &[],
+        next: Next::Fault,
+        values: &[0, 7],
+        after: &[],
+        ..READ
+    },
+    FREED,
+    // null and an allocated place are no choices
+    Run {
+        choices: &[ANY, (0, 5, &[])],
+        next: Next::NotAChoice,
+        ..FREED
+    },
+    Run {
+        choices: &[ANY, (2, 5, &[])],
+        next: Next::NotAChoice,
+        ..FREED
+    },
+    // the freed place comes back, after choices that were none
+    Run {
+        choices: &[ANY, (0, 5, &[]), (2, 5, &[]), (1, 5, &[])],
+        values: &[1, 1],
+        after: &[(1, 5), (2, 3)],
+        ..FREED
+    },
+    // nothing is there to be freed
+    Run {
+        cells: &[(2, 3)],
+        next: Next::Fault,
+        ..FREED
+    },
+];
 
 #[test]
 fn a_read_and_a_freed_place(rt: HostRuntime) -> Result<(), AllocError> {
-    let read = Run {
-        text: SECOND,
-        arguments: &[1],
-        starts: &[7],
-        cells: &[(1, 0)],
-        choices: &[ANY],
-        next: Next::Moved,
-        values: &[1, 0],
-        after: &[(1, 0)],
-    };
-    let ended = Run {
-        choices: &[ANY, ANY],
-        next: Next::Ended,
-        ..read
-    };
-    let freed = Run {
-        text: REUSE,
-        arguments: &[1],
-        starts: &[9],
-        cells: &[(1, 0), (2, 3)],
-        choices: &[ANY],
-        next: Next::Moved,
-        values: &[1, 9],
-        after: &[(2, 3)],
-    };
-    let rows: [Run; 9] = [
-        read,
-        ended,
-        // a further step changes nothing
-        Run {
-            choices: &[ANY, ANY, ANY],
-            ..ended
-        },
-        Run {
-            arguments: &[0],
-            cells: &[],
-            next: Next::Fault,
-            values: &[0, 7],
-            after: &[],
-            ..read
-        },
-        freed,
-        // null and an allocated place are no choices
-        Run {
-            choices: &[ANY, (0, 5, &[])],
-            next: Next::NotAChoice,
-            ..freed
-        },
-        Run {
-            choices: &[ANY, (2, 5, &[])],
-            next: Next::NotAChoice,
-            ..freed
-        },
-        // the freed place comes back, after choices that were none
-        Run {
-            choices: &[ANY, (0, 5, &[]), (2, 5, &[]), (1, 5, &[])],
-            values: &[1, 1],
-            after: &[(1, 5), (2, 3)],
-            ..freed
-        },
-        // nothing is there to be freed
-        Run {
-            cells: &[(2, 3)],
-            next: Next::Fault,
-            ..freed
-        },
-    ];
-    for (number, run) in rows.iter().enumerate() {
-        assert!(rt; comes(rt.alloc(), run)?, "run {number}");
-    }
+    assert!(rt; wrong_run(rt.alloc(), READS)? == None);
     Ok(())
 }
 
@@ -211,94 +223,95 @@ procedure each(x: Node) returns (y: Node)
 }
 ";
 
+const FRESH: Run<'static> = Run {
+    text: EACH,
+    arguments: &[0],
+    starts: &[7, 8],
+    cells: &[],
+    choices: &[(4, 9, &[])],
+    next: Next::Moved,
+    values: &[0, 4, 8],
+    after: &[(4, 9)],
+};
+
+const LIST: Run<'static> = Run {
+    arguments: &[2],
+    cells: &[(2, 3)],
+    choices: &[(4, 9, &[]), ANY, ANY],
+    values: &[2, 4, 2],
+    after: &[(2, 3), (4, 2)],
+    ..FRESH
+};
+
+const STATEMENTS: &[Run<'static>] = &[
+    FRESH,
+    // the write and the read
+    Run {
+        choices: &[(4, 9, &[]), ANY],
+        after: &[(4, 0)],
+        ..FRESH
+    },
+    Run {
+        choices: &[(4, 9, &[]), ANY, ANY],
+        values: &[0, 4, 0],
+        after: &[(4, 0)],
+        ..FRESH
+    },
+    // the first block
+    Run {
+        choices: &[(4, 9, &[]), ANY, ANY, ANY, ANY],
+        values: &[0, 4, 4],
+        after: &[(4, 0)],
+        ..FRESH
+    },
+    // one turn of the loop
+    Run {
+        choices: &[(4, 9, &[]), ANY, ANY, ANY, ANY, ANY, ANY],
+        values: &[0, 4, 0],
+        after: &[(4, 0)],
+        ..FRESH
+    },
+    // out of the loop, and the return
+    Run {
+        choices: &[(4, 9, &[]), ANY, ANY, ANY, ANY, ANY, ANY, ANY],
+        values: &[0, 4, 0],
+        after: &[(4, 0)],
+        ..FRESH
+    },
+    Run {
+        choices: &[(4, 9, &[]), ANY, ANY, ANY, ANY, ANY, ANY, ANY, ANY],
+        next: Next::Ended,
+        values: &[0, 0, 0],
+        after: &[(4, 0)],
+        ..FRESH
+    },
+    LIST,
+    // the second block, into the loop, and a read of what was freed
+    Run {
+        choices: &[(4, 9, &[]), ANY, ANY, ANY],
+        ..LIST
+    },
+    Run {
+        choices: &[(4, 9, &[]), ANY, ANY, ANY, ANY],
+        after: &[(4, 2)],
+        ..LIST
+    },
+    Run {
+        choices: &[(4, 9, &[]), ANY, ANY, ANY, ANY, ANY],
+        after: &[(4, 2)],
+        ..LIST
+    },
+    Run {
+        choices: &[(4, 9, &[]), ANY, ANY, ANY, ANY, ANY, ANY],
+        next: Next::Fault,
+        after: &[(4, 2)],
+        ..LIST
+    },
+];
+
 #[test]
 fn each_statement(rt: HostRuntime) -> Result<(), AllocError> {
-    let fresh = Run {
-        text: EACH,
-        arguments: &[0],
-        starts: &[7, 8],
-        cells: &[],
-        choices: &[(4, 9, &[])],
-        next: Next::Moved,
-        values: &[0, 4, 8],
-        after: &[(4, 9)],
-    };
-    let list = Run {
-        arguments: &[2],
-        cells: &[(2, 3)],
-        choices: &[(4, 9, &[]), ANY, ANY],
-        values: &[2, 4, 2],
-        after: &[(2, 3), (4, 2)],
-        ..fresh
-    };
-    let rows: [Run; 12] = [
-        fresh,
-        // the write and the read
-        Run {
-            choices: &[(4, 9, &[]), ANY],
-            after: &[(4, 0)],
-            ..fresh
-        },
-        Run {
-            choices: &[(4, 9, &[]), ANY, ANY],
-            values: &[0, 4, 0],
-            after: &[(4, 0)],
-            ..fresh
-        },
-        // the first block
-        Run {
-            choices: &[(4, 9, &[]), ANY, ANY, ANY, ANY],
-            values: &[0, 4, 4],
-            after: &[(4, 0)],
-            ..fresh
-        },
-        // one turn of the loop
-        Run {
-            choices: &[(4, 9, &[]), ANY, ANY, ANY, ANY, ANY, ANY],
-            values: &[0, 4, 0],
-            after: &[(4, 0)],
-            ..fresh
-        },
-        // out of the loop, and the return
-        Run {
-            choices: &[(4, 9, &[]), ANY, ANY, ANY, ANY, ANY, ANY, ANY],
-            values: &[0, 4, 0],
-            after: &[(4, 0)],
-            ..fresh
-        },
-        Run {
-            choices: &[(4, 9, &[]), ANY, ANY, ANY, ANY, ANY, ANY, ANY, ANY],
-            next: Next::Ended,
-            values: &[0, 0, 0],
-            after: &[(4, 0)],
-            ..fresh
-        },
-        list,
-        // the second block, into the loop, and a read of what was freed
-        Run {
-            choices: &[(4, 9, &[]), ANY, ANY, ANY],
-            ..list
-        },
-        Run {
-            choices: &[(4, 9, &[]), ANY, ANY, ANY, ANY],
-            after: &[(4, 2)],
-            ..list
-        },
-        Run {
-            choices: &[(4, 9, &[]), ANY, ANY, ANY, ANY, ANY],
-            after: &[(4, 2)],
-            ..list
-        },
-        Run {
-            choices: &[(4, 9, &[]), ANY, ANY, ANY, ANY, ANY, ANY],
-            next: Next::Fault,
-            after: &[(4, 2)],
-            ..list
-        },
-    ];
-    for (number, run) in rows.iter().enumerate() {
-        assert!(rt; comes(rt.alloc(), run)?, "run {number}");
-    }
+    assert!(rt; wrong_run(rt.alloc(), STATEMENTS)? == None);
     Ok(())
 }
 
@@ -307,43 +320,43 @@ procedure write(x: Node, y: Node)
 { x.next := y.next; }
 ";
 
+const BOTH: Run<'static> = Run {
+    text: WRITE,
+    arguments: &[1, 2],
+    starts: &[],
+    cells: &[(1, 5), (2, 6)],
+    choices: &[ANY],
+    next: Next::Moved,
+    values: &[1, 2],
+    after: &[(1, 6), (2, 6)],
+};
+
+const WRITES: &[Run<'static>] = &[
+    BOTH,
+    Run {
+        cells: &[(1, 5)],
+        next: Next::Fault,
+        after: &[(1, 5)],
+        ..BOTH
+    },
+    Run {
+        cells: &[(2, 6)],
+        next: Next::Fault,
+        after: &[(2, 6)],
+        ..BOTH
+    },
+    // both are the same place
+    Run {
+        arguments: &[1, 1],
+        values: &[1, 1],
+        after: &[(1, 5), (2, 6)],
+        ..BOTH
+    },
+];
+
 #[test]
 fn a_write_with_a_read(rt: HostRuntime) -> Result<(), AllocError> {
-    let both = Run {
-        text: WRITE,
-        arguments: &[1, 2],
-        starts: &[],
-        cells: &[(1, 5), (2, 6)],
-        choices: &[ANY],
-        next: Next::Moved,
-        values: &[1, 2],
-        after: &[(1, 6), (2, 6)],
-    };
-    let rows: [Run; 4] = [
-        both,
-        Run {
-            cells: &[(1, 5)],
-            next: Next::Fault,
-            after: &[(1, 5)],
-            ..both
-        },
-        Run {
-            cells: &[(2, 6)],
-            next: Next::Fault,
-            after: &[(2, 6)],
-            ..both
-        },
-        // both are the same place
-        Run {
-            arguments: &[1, 1],
-            values: &[1, 1],
-            after: &[(1, 5), (2, 6)],
-            ..both
-        },
-    ];
-    for (number, run) in rows.iter().enumerate() {
-        assert!(rt; comes(rt.alloc(), run)?, "run {number}");
-    }
+    assert!(rt; wrong_run(rt.alloc(), WRITES)? == None);
     Ok(())
 }
 
@@ -357,57 +370,60 @@ procedure or(x: Node) returns (y: Node)
 { if (x == null || x.next == null) { y := x; } else { y := x.next; } }
 ";
 
+const NULL: Run<'static> = Run {
+    text: AND,
+    arguments: &[0],
+    starts: &[7],
+    cells: &[],
+    choices: &[ANY, ANY],
+    next: Next::Moved,
+    values: &[0, 0],
+    after: &[],
+};
+
+const ONE: Run<'static> = Run {
+    arguments: &[1],
+    cells: &[(1, 0)],
+    values: &[1, 1],
+    after: &[(1, 0)],
+    ..NULL
+};
+
+const TWO: Run<'static> = Run {
+    arguments: &[1],
+    cells: &[(1, 2)],
+    values: &[1, 0],
+    after: &[(1, 2)],
+    ..NULL
+};
+
+// the second test is read, and isn't allocated
+const GONE: Run<'static> = Run {
+    arguments: &[3],
+    choices: &[ANY],
+    next: Next::Fault,
+    values: &[3, 7],
+    ..NULL
+};
+
+const STOPS: &[Run<'static>] = &[
+    NULL,
+    ONE,
+    TWO,
+    GONE,
+    Run { text: OR, ..NULL },
+    Run { text: OR, ..ONE },
+    Run {
+        text: OR,
+        values: &[1, 2],
+        ..TWO
+    },
+    Run { text: OR, ..GONE },
+];
+
 #[test]
 fn early_stops(rt: HostRuntime) -> Result<(), AllocError> {
-    let null = Run {
-        text: AND,
-        arguments: &[0],
-        starts: &[7],
-        cells: &[],
-        choices: &[ANY, ANY],
-        next: Next::Moved,
-        values: &[0, 0],
-        after: &[],
-    };
-    let one = Run {
-        arguments: &[1],
-        cells: &[(1, 0)],
-        values: &[1, 1],
-        after: &[(1, 0)],
-        ..null
-    };
-    let two = Run {
-        arguments: &[1],
-        cells: &[(1, 2)],
-        values: &[1, 0],
-        after: &[(1, 2)],
-        ..null
-    };
-    // the second test is read, and isn't allocated
-    let gone = Run {
-        arguments: &[3],
-        choices: &[ANY],
-        next: Next::Fault,
-        values: &[3, 7],
-        ..null
-    };
-    let rows: [Run; 8] = [
-        null,
-        one,
-        two,
-        gone,
-        Run { text: OR, ..null },
-        Run { text: OR, ..one },
-        Run {
-            text: OR,
-            values: &[1, 2],
-            ..two
-        },
-        Run { text: OR, ..gone },
-    ];
-    for (number, run) in rows.iter().enumerate() {
-        assert!(rt; comes(rt.alloc(), run)?, "run {number}");
-    }
+    assert!(rt; wrong_run(rt.alloc(), STOPS)? == None);
     Ok(())
 }
 
@@ -420,67 +436,67 @@ procedure inner(c: Node) returns (d: Node)
 { d := c; }
 ";
 
+const CALLED: Run<'static> = Run {
+    text: OUTER,
+    arguments: &[1],
+    starts: &[7],
+    cells: &[(1, 2), (2, 3)],
+    choices: &[(0, 0, &[8, 9])],
+    next: Next::Moved,
+    values: &[2, 8, 9],
+    after: &[(1, 2), (2, 3)],
+};
+
+const CALLS: &[Run<'static>] = &[
+    CALLED,
+    // not as many values as the results and locals
+    Run {
+        choices: &[(0, 0, &[8])],
+        next: Next::NotAChoice,
+        values: &[1, 7],
+        ..CALLED
+    },
+    // an argument is read before that
+    Run {
+        arguments: &[4],
+        choices: &[(0, 0, &[8])],
+        next: Next::Fault,
+        values: &[4, 7],
+        ..CALLED
+    },
+    Run {
+        choices: &[(0, 0, &[8, 9]), (0, 0, &[6])],
+        values: &[2, 6],
+        ..CALLED
+    },
+    // out of the inner call
+    Run {
+        choices: &[(0, 0, &[8, 9]), (0, 0, &[6]), ANY, ANY],
+        values: &[2, 2, 9],
+        ..CALLED
+    },
+    Run {
+        choices: &[(0, 0, &[8, 9]), (0, 0, &[6]), ANY, ANY, ANY],
+        values: &[2, 3, 9],
+        ..CALLED
+    },
+    // out of the middle call, and the end
+    Run {
+        choices: &[(0, 0, &[8, 9]), (0, 0, &[6]), ANY, ANY, ANY, ANY],
+        values: &[1, 3],
+        ..CALLED
+    },
+    Run {
+        choices: &[(0, 0, &[8, 9]), (0, 0, &[6]), ANY, ANY, ANY, ANY, ANY],
+        next: Next::Ended,
+        values: &[1, 3],
+        ..CALLED
+    },
+];
+
 #[test]
 fn nested_calls(rt: HostRuntime) -> Result<(), AllocError> {
-    let called = Run {
-        text: OUTER,
-        arguments: &[1],
-        starts: &[7],
-        cells: &[(1, 2), (2, 3)],
-        choices: &[(0, 0, &[8, 9])],
-        next: Next::Moved,
-        values: &[2, 8, 9],
-        after: &[(1, 2), (2, 3)],
-    };
-    let rows: [Run; 8] = [
-        called,
-        // not as many values as the results and locals
-        Run {
-            choices: &[(0, 0, &[8])],
-            next: Next::NotAChoice,
-            values: &[1, 7],
-            ..called
-        },
-        // an argument is read before that
-        Run {
-            arguments: &[4],
-            choices: &[(0, 0, &[8])],
-            next: Next::Fault,
-            values: &[4, 7],
-            ..called
-        },
-        Run {
-            choices: &[(0, 0, &[8, 9]), (0, 0, &[6])],
-            values: &[2, 6],
-            ..called
-        },
-        // out of the inner call
-        Run {
-            choices: &[(0, 0, &[8, 9]), (0, 0, &[6]), ANY, ANY],
-            values: &[2, 2, 9],
-            ..called
-        },
-        Run {
-            choices: &[(0, 0, &[8, 9]), (0, 0, &[6]), ANY, ANY, ANY],
-            values: &[2, 3, 9],
-            ..called
-        },
-        // out of the middle call, and the end
-        Run {
-            choices: &[(0, 0, &[8, 9]), (0, 0, &[6]), ANY, ANY, ANY, ANY],
-            values: &[1, 3],
-            ..called
-        },
-        Run {
-            choices: &[(0, 0, &[8, 9]), (0, 0, &[6]), ANY, ANY, ANY, ANY, ANY],
-            next: Next::Ended,
-            values: &[1, 3],
-            ..called
-        },
-    ];
-    for (number, run) in rows.iter().enumerate() {
-        assert!(rt; comes(rt.alloc(), run)?, "run {number}");
-    }
+    assert!(rt; wrong_run(rt.alloc(), CALLS)? == None);
     Ok(())
 }
 
@@ -496,65 +512,66 @@ procedure last(a: Node) returns (r: Node)
 { if (a.next == null) { return a; } else { r := last(a.next); } }
 ";
 
+const KEPT: Run<'static> = Run {
+    text: KEEP,
+    arguments: &[1],
+    starts: &[7],
+    cells: &[],
+    choices: &[(0, 0, &[42])],
+    next: Next::Moved,
+    values: &[1, 42],
+    after: &[],
+};
+
+const FOUND: Run<'static> = Run {
+    text: LAST,
+    cells: &[(1, 2), (2, 3), (3, 0)],
+    choices: &[ANY, (0, 0, &[8]), ANY, (0, 0, &[9]), ANY],
+    values: &[3, 9],
+    after: &[(1, 2), (2, 3), (3, 0)],
+    ..KEPT
+};
+
+const RECURSIONS: &[Run<'static>] = &[
+    // the callee begins with its result at any value, and falls off its end
+    KEPT,
+    Run {
+        choices: &[(0, 0, &[42]), ANY],
+        ..KEPT
+    },
+    Run {
+        choices: &[(0, 0, &[42]), ANY, ANY],
+        next: Next::Ended,
+        ..KEPT
+    },
+    Run {
+        choices: &[(0, 0, &[0]), ANY],
+        values: &[1, 0],
+        ..KEPT
+    },
+    // the third activation, its return, and the end of the second
+    FOUND,
+    Run {
+        choices: &[ANY, (0, 0, &[8]), ANY, (0, 0, &[9]), ANY, ANY],
+        values: &[2, 3],
+        ..FOUND
+    },
+    Run {
+        choices: &[ANY, (0, 0, &[8]), ANY, (0, 0, &[9]), ANY, ANY, ANY],
+        values: &[1, 3],
+        ..FOUND
+    },
+    Run {
+        choices: &[ANY, (0, 0, &[8]), ANY, (0, 0, &[9]), ANY, ANY, ANY, ANY],
+        next: Next::Ended,
+        values: &[1, 3],
+        ..FOUND
+    },
+];
+
 #[test]
 fn kept_values_and_recursion(rt: HostRuntime) -> Result<(), AllocError> {
-    let kept = Run {
-        text: KEEP,
-        arguments: &[1],
-        starts: &[7],
-        cells: &[],
-        choices: &[(0, 0, &[42])],
-        next: Next::Moved,
-        values: &[1, 42],
-        after: &[],
-    };
-    let found = Run {
-        text: LAST,
-        cells: &[(1, 2), (2, 3), (3, 0)],
-        choices: &[ANY, (0, 0, &[8]), ANY, (0, 0, &[9]), ANY],
-        values: &[3, 9],
-        after: &[(1, 2), (2, 3), (3, 0)],
-        ..kept
-    };
-    let rows: [Run; 8] = [
-        // the callee begins with its result at any value, and falls off its end
-        kept,
-        Run {
-            choices: &[(0, 0, &[42]), ANY],
-            ..kept
-        },
-        Run {
-            choices: &[(0, 0, &[42]), ANY, ANY],
-            next: Next::Ended,
-            ..kept
-        },
-        Run {
-            choices: &[(0, 0, &[0]), ANY],
-            values: &[1, 0],
-            ..kept
-        },
-        // the third activation, its return, and the end of the second
-        found,
-        Run {
-            choices: &[ANY, (0, 0, &[8]), ANY, (0, 0, &[9]), ANY, ANY],
-            values: &[2, 3],
-            ..found
-        },
-        Run {
-            choices: &[ANY, (0, 0, &[8]), ANY, (0, 0, &[9]), ANY, ANY, ANY],
-            values: &[1, 3],
-            ..found
-        },
-        Run {
-            choices: &[ANY, (0, 0, &[8]), ANY, (0, 0, &[9]), ANY, ANY, ANY, ANY],
-            next: Next::Ended,
-            values: &[1, 3],
-            ..found
-        },
-    ];
-    for (number, run) in rows.iter().enumerate() {
-        assert!(rt; comes(rt.alloc(), run)?, "run {number}");
-    }
+    assert!(rt; wrong_run(rt.alloc(), RECURSIONS)? == None);
     Ok(())
 }
 
@@ -575,71 +592,72 @@ procedure pair(p: Node, q: Node) returns (m: Node, n: Node)
 { return p.next, q; }
 ";
 
+const GIVEN: Run<'static> = Run {
+    text: GIVE,
+    arguments: &[1, 2],
+    starts: &[5, 7],
+    cells: &[(1, 3), (2, 4)],
+    choices: &[ANY],
+    next: Next::Ended,
+    values: &[1, 2, 3, 4],
+    after: &[(1, 3), (2, 4)],
+};
+
+const SWAPPED: Run<'static> = Run {
+    text: SWAP,
+    choices: &[(0, 0, &[8, 9])],
+    next: Next::Moved,
+    values: &[1, 2, 8, 9],
+    ..GIVEN
+};
+
+const RETURNS: &[Run<'static>] = &[
+    // what stands after a return isn't run
+    GIVEN,
+    Run {
+        choices: &[ANY, ANY],
+        ..GIVEN
+    },
+    // a read that isn't allocated, and no result is set
+    Run {
+        cells: &[(1, 3)],
+        next: Next::Fault,
+        values: &[1, 2, 5, 7],
+        after: &[(1, 3)],
+        ..GIVEN
+    },
+    // the results get their values all at once
+    Run {
+        text: TURN,
+        choices: &[ANY, ANY, ANY],
+        values: &[1, 2, 2, 1],
+        ..GIVEN
+    },
+    SWAPPED,
+    // a return above another activation sets the targets in the same step
+    Run {
+        choices: &[(0, 0, &[8, 9]), ANY],
+        values: &[1, 2, 2, 3],
+        ..SWAPPED
+    },
+    Run {
+        choices: &[(0, 0, &[8, 9]), ANY, ANY],
+        next: Next::Ended,
+        values: &[1, 2, 2, 3],
+        ..SWAPPED
+    },
+    // a fault of a return above another activation
+    Run {
+        cells: &[],
+        choices: &[(0, 0, &[8, 9]), ANY],
+        next: Next::Fault,
+        after: &[],
+        ..SWAPPED
+    },
+];
+
 #[test]
 fn returns(rt: HostRuntime) -> Result<(), AllocError> {
-    let given = Run {
-        text: GIVE,
-        arguments: &[1, 2],
-        starts: &[5, 7],
-        cells: &[(1, 3), (2, 4)],
-        choices: &[ANY],
-        next: Next::Ended,
-        values: &[1, 2, 3, 4],
-        after: &[(1, 3), (2, 4)],
-    };
-    let swapped = Run {
-        text: SWAP,
-        choices: &[(0, 0, &[8, 9])],
-        next: Next::Moved,
-        values: &[1, 2, 8, 9],
-        ..given
-    };
-    let rows: [Run; 8] = [
-        // what stands after a return isn't run
-        given,
-        Run {
-            choices: &[ANY, ANY],
-            ..given
-        },
-        // a read that isn't allocated, and no result is set
-        Run {
-            cells: &[(1, 3)],
-            next: Next::Fault,
-            values: &[1, 2, 5, 7],
-            after: &[(1, 3)],
-            ..given
-        },
-        // the results get their values all at once
-        Run {
-            text: TURN,
-            choices: &[ANY, ANY, ANY],
-            values: &[1, 2, 2, 1],
-            ..given
-        },
-        swapped,
-        // a return above another activation sets the targets in the same step
-        Run {
-            choices: &[(0, 0, &[8, 9]), ANY],
-            values: &[1, 2, 2, 3],
-            ..swapped
-        },
-        Run {
-            choices: &[(0, 0, &[8, 9]), ANY, ANY],
-            next: Next::Ended,
-            values: &[1, 2, 2, 3],
-            ..swapped
-        },
-        // a fault of a return above another activation
-        Run {
-            cells: &[],
-            choices: &[(0, 0, &[8, 9]), ANY],
-            next: Next::Fault,
-            after: &[],
-            ..swapped
-        },
-    ];
-    for (number, run) in rows.iter().enumerate() {
-        assert!(rt; comes(rt.alloc(), run)?, "run {number}");
-    }
+    assert!(rt; wrong_run(rt.alloc(), RETURNS)? == None);
     Ok(())
 }

@@ -1,6 +1,6 @@
 // Worked traces that are replayed.
 
-ghost use Rattle.std.specs.Prelude.{◌≡◌, ◌<◌, ◌^◌, ◌-◌, length};
+ghost use Rattle.std.specs.Prelude.{◌≡◌};
 ghost use Rattle.gh_ast.specs.Plain.{program_of};
 
 use gh_assert::heap::Heap;
@@ -14,6 +14,7 @@ use gh_texts::{CUT, DROP, LAST, OUTER, REUSE};
 use gh_trace::replay::{ReplayError, replay};
 use gh_trace::state::{State, Trace};
 use gh_types::check::check;
+use gh_types::counts::MOST_BYTES;
 use std::alloc::{AllocError, Global};
 
 type Drawn<'a> = (&'a [u32], &'a [(u32, u32)]);
@@ -86,9 +87,10 @@ fn ends_of(
 }
 
 // The same of a condition of a text.
-fn ends(alloc: Global, text: &[u8], number: u32, drawn: &[Drawn]) -> Result<u16, AllocError>
-    requires { length text.now < 2 ^ 32 - 1 }
-{
+fn ends(alloc: Global, text: &[u8], number: u32, drawn: &[Drawn]) -> Result<u16, AllocError> {
+    if text.len() > MOST_BYTES {
+        return Ok(2000);
+    }
     let Ok(program) = parse(alloc, text) else {
         return Ok(2000);
     };
@@ -101,59 +103,62 @@ fn ends(alloc: Global, text: &[u8], number: u32, drawn: &[Drawn]) -> Result<u16,
     }
 }
 
+// A text, the number of a condition, states of it, and how their replay ends.
+type Row = (&'static [u8], u32, &'static [Drawn<'static>], u16);
+
+// The first row whose replay ends otherwise.
+fn wrong_row(alloc: Global, rows: &[Row]) -> Result<Option<usize>, AllocError> {
+    for (place, (text, number, drawn, wanted)) in rows.iter().enumerate() {
+        if ends(alloc, text, *number, drawn)? != *wanted {
+            return Ok(Some(place));
+        }
+    }
+    Ok(None)
+}
+
+const HELD: Drawn<'static> = (&[1, 0], &[(1, 0)]);
+
+const GONE: Drawn<'static> = (&[1, 0], &[]);
+
+const LEAKS: &[Row] = &[
+    (DROP, 2, &[HELD, HELD, HELD], 1000),
+    (DROP, 2, &[HELD, HELD, GONE], 2),
+    (DROP, 2, &[HELD, HELD], 2),
+    (DROP, 2, &[HELD, HELD, HELD, HELD], 3),
+    (DROP, 2, &[], 0),
+    (DROP, 2, &[(&[1], &[(1, 0)]), HELD, HELD], 0),
+    (DROP, 2, &[(&[1, 0], &[(1, 0), (2, 0)]), HELD, HELD], 0),
+];
+
 #[test]
 fn a_leak(rt: HostRuntime) -> Result<(), AllocError> {
-    let alloc = rt.alloc();
-    let whole: Drawn = (&[1, 0], &[(1, 0)]);
-    assert!(rt; ends(alloc, DROP, 2, &[whole, whole, whole])? == 1000);
-    assert!(rt; ends(alloc, DROP, 2, &[whole, whole, (&[1, 0], &[])])? == 2);
-    assert!(rt; ends(alloc, DROP, 2, &[whole, whole])? == 2);
-    assert!(rt; ends(alloc, DROP, 2, &[whole, whole, whole, whole])? == 3);
-    assert!(rt; ends(alloc, DROP, 2, &[])? == 0);
-    assert!(rt; ends(alloc, DROP, 2, &[(&[1], &[(1, 0)]), whole, whole])? == 0);
-    assert!(rt;
-        ends(
-            alloc,
-            DROP,
-            2,
-            &[(&[1, 0], &[(1, 0), (2, 0)]), whole, whole]
-        )? == 0
-    );
+    assert!(rt; wrong_row(rt.alloc(), LEAKS)? == None);
     Ok(())
 }
 
+const LINKED: Drawn<'static> = (&[1], &[(1, 2), (2, 0)]);
+
+const OTHERS: &[Row] = &[
+    (CUT, 2, &[LINKED, LINKED, (&[1], &[(1, 0), (2, 0)])], 1000),
+    (LAST, 2, &[HELD, (&[1, 1], &[(1, 0)]), GONE, GONE], 1000),
+    (
+        OUTER,
+        3,
+        &[(&[1, 2, 0], &[(1, 2), (2, 0)]), (&[1, 2, 0], &[(1, 2)])],
+        1000,
+    ),
+    (
+        OUTER,
+        3,
+        &[(&[1, 2, 0], &[(1, 2), (2, 0)]), (&[1, 2, 0], &[(1, 3)])],
+        1,
+    ),
+    (REUSE, 2, &[HELD, HELD, GONE, (&[1, 1], &[(1, 0)])], 1000),
+];
+
 #[test]
 fn a_write_a_loop_a_call_and_a_new_cell(rt: HostRuntime) -> Result<(), AllocError> {
-    let alloc = rt.alloc();
-    let list: Drawn = (&[1], &[(1, 2), (2, 0)]);
-    assert!(rt; ends(alloc, CUT, 2, &[list, list, (&[1], &[(1, 0), (2, 0)])])? == 1000);
-    let gone: Drawn = (&[1, 0], &[]);
-    assert!(rt;
-        ends(
-            alloc,
-            LAST,
-            2,
-            &[(&[1, 0], &[(1, 0)]), (&[1, 1], &[(1, 0)]), gone, gone]
-        )? == 1000
-    );
-    assert!(rt;
-        ends(
-            alloc,
-            OUTER,
-            3,
-            &[(&[1, 2, 0], &[(1, 2), (2, 0)]), (&[1, 2, 0], &[(1, 2)])]
-        )? == 1000
-    );
-    assert!(rt;
-        ends(
-            alloc,
-            OUTER,
-            3,
-            &[(&[1, 2, 0], &[(1, 2), (2, 0)]), (&[1, 2, 0], &[(1, 3)])]
-        )? == 1
-    );
-    let cell: Drawn = (&[1, 0], &[(1, 0)]);
-    assert!(rt; ends(alloc, REUSE, 2, &[cell, cell, gone, (&[1, 1], &[(1, 0)])])? == 1000);
+    assert!(rt; wrong_row(rt.alloc(), OTHERS)? == None);
     Ok(())
 }
 
@@ -172,16 +177,22 @@ procedure turned(x: Node) returns (r: Node, s: Node)
 { s, r := pair(x); }
 ";
 
+const BEFORE: Drawn<'static> = (&[1, 0, 0], &[(1, 2)]);
+
+const FIRST: Drawn<'static> = (&[1, 1, 0], &[(1, 0)]);
+
+const SECOND: Drawn<'static> = (&[1, 0, 1], &[(1, 0)]);
+
+const RESULTS: &[Row] = &[
+    (PAIR, 4, &[BEFORE, FIRST], 1000),
+    (PAIR, 4, &[BEFORE, SECOND], 1),
+    (PAIR, 6, &[BEFORE, SECOND], 1000),
+    (PAIR, 6, &[BEFORE, FIRST], 1),
+];
+
 #[test]
 fn the_results_of_a_call_in_their_order(rt: HostRuntime) -> Result<(), AllocError> {
-    let alloc = rt.alloc();
-    let before: Drawn = (&[1, 0, 0], &[(1, 2)]);
-    let first: Drawn = (&[1, 1, 0], &[(1, 0)]);
-    let second: Drawn = (&[1, 0, 1], &[(1, 0)]);
-    assert!(rt; ends(alloc, PAIR, 4, &[before, first])? == 1000);
-    assert!(rt; ends(alloc, PAIR, 4, &[before, second])? == 1);
-    assert!(rt; ends(alloc, PAIR, 6, &[before, second])? == 1000);
-    assert!(rt; ends(alloc, PAIR, 6, &[before, first])? == 1);
+    assert!(rt; wrong_row(rt.alloc(), RESULTS)? == None);
     Ok(())
 }
 
@@ -198,18 +209,28 @@ procedure walk(x: Node) returns (y: Node, z: Node)
 }
 ";
 
+const START: Drawn<'static> = (&[1, 0, 0], &[(1, 0)]);
+
+const ONE: Drawn<'static> = (&[1, 0, 1], &[(1, 0)]);
+
+const TWO: Drawn<'static> = (&[1, 1, 1], &[(1, 0)]);
+
+const OUT: Drawn<'static> = (&[1, 0, 1], &[]);
+
+// Another result, and another parameter.
+const RESULT: Drawn<'static> = (&[1, 0, 7], &[]);
+
+const PARAMETER: Drawn<'static> = (&[7, 0, 1], &[]);
+
+const LOOPS: &[Row] = &[
+    (WALK, 2, &[START, ONE, TWO, OUT, OUT], 1000),
+    (WALK, 2, &[START, ONE, TWO, RESULT, RESULT], 3),
+    (WALK, 2, &[START, ONE, TWO, PARAMETER, PARAMETER], 3),
+    (WALK, 2, &[START, ONE, TWO, OUT, RESULT], 4),
+];
+
 #[test]
 fn what_a_loop_assigns(rt: HostRuntime) -> Result<(), AllocError> {
-    let alloc = rt.alloc();
-    let start: Drawn = (&[1, 0, 0], &[(1, 0)]);
-    let one: Drawn = (&[1, 0, 1], &[(1, 0)]);
-    let two: Drawn = (&[1, 1, 1], &[(1, 0)]);
-    let out: Drawn = (&[1, 0, 1], &[]);
-    let result: Drawn = (&[1, 0, 7], &[]);
-    let parameter: Drawn = (&[7, 0, 1], &[]);
-    assert!(rt; ends(alloc, WALK, 2, &[start, one, two, out, out])? == 1000);
-    assert!(rt; ends(alloc, WALK, 2, &[start, one, two, result, result])? == 3);
-    assert!(rt; ends(alloc, WALK, 2, &[start, one, two, parameter, parameter])? == 3);
-    assert!(rt; ends(alloc, WALK, 2, &[start, one, two, out, result])? == 4);
+    assert!(rt; wrong_row(rt.alloc(), LOOPS)? == None);
     Ok(())
 }

@@ -92,80 +92,129 @@ procedure cell() returns (y: Node)
 { y := new Node; return y; }
 ";
 
+// A program, a state file, the most steps, and what is said.
+type Row = (&'static [u8], &'static [u8], u32, Said<'static>);
+
+// The first run that comes to something else.
+fn wrong_row(alloc: Global, rows: &[Row]) -> Result<Option<usize>, AllocError> {
+    for (number, (text, file, limit, said)) in rows.iter().enumerate() {
+        if !comes(alloc, text, file, *limit, *said)? {
+            return Ok(Some(number));
+        }
+    }
+    Ok(None)
+}
+
+const ALLOCATED: &[u8] = b"procedure second\nstore x=1 y=7\nheap 1->0 5->5\nend\n";
+
+const REPORTS: &[Row] = &[
+    (
+        SECOND,
+        ALLOCATED,
+        5,
+        Said::Ended(1, true, b"store x=1 y=0\nheap 1->0 5->5\n"),
+    ),
+    (
+        SECOND,
+        ALLOCATED,
+        1,
+        Said::Stopped(1, b"store x=1 y=0\nheap 1->0 5->5\n"),
+    ),
+    (
+        SECOND,
+        b"procedure second\nstore x=0 y=0\nheap\nend\n",
+        5,
+        Said::Faulted(0, b"store x=0 y=0\nheap\n"),
+    ),
+    (
+        SECOND,
+        b"procedure second\nstore x=1 y=0\nheap\nend\n",
+        5,
+        Said::Unmet,
+    ),
+    (
+        DROP,
+        b"procedure drop\nstore x=1 y=0\nheap 1->2 2->0\nend\n",
+        5,
+        Said::Ended(1, false, b"store x=1 y=2\nheap 1->2 2->0\n"),
+    ),
+    // the least free place lies between two cells, and the return isn't counted
+    (
+        FRESH,
+        b"procedure cell\nstore y=9\nheap 1->8 4->4\nend\n",
+        5,
+        Said::Ended(1, true, b"store y=2\nheap 1->8 2->0 4->4\n"),
+    ),
+    // a callee's results and locals begin with 0
+    (
+        FRESH,
+        b"procedure made\nstore x=1 y=5 t=6\nheap 1->3\nend\n",
+        7,
+        Said::Stopped(7, b"store x=1 y=0 t=0\nheap 1->3\n"),
+    ),
+];
+
 #[test]
 fn reports_of_runs(rt: HostRuntime) -> Result<(), AllocError> {
-    let alloc = rt.alloc();
-    let first = b"procedure second\nstore x=1 y=7\nheap 1->0 5->5\nend\n";
-    let ended = Said::Ended(1, true, b"store x=1 y=0\nheap 1->0 5->5\n");
-    assert!(rt; comes(alloc, SECOND, first, 5, ended)?);
-    let stopped = Said::Stopped(1, b"store x=1 y=0\nheap 1->0 5->5\n");
-    assert!(rt; comes(alloc, SECOND, first, 1, stopped)?);
-    let null = b"procedure second\nstore x=0 y=0\nheap\nend\n";
-    assert!(rt;
-        comes(
-            alloc,
-            SECOND,
-            null,
-            5,
-            Said::Faulted(0, b"store x=0 y=0\nheap\n")
-        )?
-    );
-    let alone = b"procedure second\nstore x=1 y=0\nheap\nend\n";
-    assert!(rt; comes(alloc, SECOND, alone, 5, Said::Unmet)?);
-    let dropped = b"procedure drop\nstore x=1 y=0\nheap 1->2 2->0\nend\n";
-    let lost = Said::Ended(1, false, b"store x=1 y=2\nheap 1->2 2->0\n");
-    assert!(rt; comes(alloc, DROP, dropped, 5, lost)?);
+    assert!(rt; wrong_row(rt.alloc(), REPORTS)? == None);
     Ok(())
 }
 
-#[test]
-fn cells_and_calls_by_the_rule(rt: HostRuntime) -> Result<(), AllocError> {
-    let alloc = rt.alloc();
-    // the least free place lies between two cells, and the return isn't counted
-    let file = b"procedure cell\nstore y=9\nheap 1->8 4->4\nend\n";
-    assert!(rt;
-        comes(
-            alloc,
-            FRESH,
-            file,
-            5,
-            Said::Ended(1, true, b"store y=2\nheap 1->8 2->0 4->4\n")
-        )?
-    );
-    // a callee's results and locals begin with 0
-    let call = b"procedure made\nstore x=1 y=5 t=6\nheap 1->3\nend\n";
-    assert!(rt;
-        comes(
-            alloc,
-            FRESH,
-            call,
-            7,
-            Said::Stopped(7, b"store x=1 y=0 t=0\nheap 1->3\n")
-        )?
-    );
-    Ok(())
-}
+const FAULTY: &[Row] = &[
+    (SECOND, b"", 5, Said::Line(1)),
+    (
+        SECOND,
+        b"procedure other\nstore x=1 y=7\nheap\nend\n",
+        5,
+        Said::Line(1),
+    ),
+    (SECOND, b"procedure second", 5, Said::Line(1)),
+    (
+        SECOND,
+        b"procedure second\nstore x=1\nheap\nend\n",
+        5,
+        Said::Line(2),
+    ),
+    (
+        SECOND,
+        b"procedure second\nstore x=1 y=07\nheap\nend\n",
+        5,
+        Said::Line(2),
+    ),
+    (
+        SECOND,
+        b"procedure second\nstore x=1 y=4294967296\nheap\nend\n",
+        5,
+        Said::Line(2),
+    ),
+    (
+        SECOND,
+        b"procedure second\nstore x=1 y=7\nheap 2->1 1->0\nend\n",
+        5,
+        Said::Line(3),
+    ),
+    (
+        SECOND,
+        b"procedure second\nstore x=1 y=7\nheap 0->1\nend\n",
+        5,
+        Said::Line(3),
+    ),
+    (
+        SECOND,
+        b"procedure second\nstore x=1 y=7\nheap\nend",
+        5,
+        Said::Line(4),
+    ),
+    (
+        SECOND,
+        b"procedure second\nstore x=1 y=7\nheap\nend\n\n",
+        5,
+        Said::Line(5),
+    ),
+];
 
 #[test]
 fn first_lines_that_are_faulty(rt: HostRuntime) -> Result<(), AllocError> {
-    let alloc = rt.alloc();
-    let rows: [(&[u8], u32); 10] = [
-        (b"", 1),
-        (b"procedure other\nstore x=1 y=7\nheap\nend\n", 1),
-        (b"procedure second", 1),
-        (b"procedure second\nstore x=1\nheap\nend\n", 2),
-        (b"procedure second\nstore x=1 y=07\nheap\nend\n", 2),
-        (b"procedure second\nstore x=1 y=4294967296\nheap\nend\n", 2),
-        (b"procedure second\nstore x=1 y=7\nheap 2->1 1->0\nend\n", 3),
-        (b"procedure second\nstore x=1 y=7\nheap 0->1\nend\n", 3),
-        (b"procedure second\nstore x=1 y=7\nheap\nend", 4),
-        (b"procedure second\nstore x=1 y=7\nheap\nend\n\n", 5),
-    ];
-    for (number, (file, line)) in rows.iter().enumerate() {
-        assert!(rt;
-            comes(alloc, SECOND, file, 5, Said::Line(*line))?,
-            "row {number}"
-        );
-    }
+    assert!(rt; wrong_row(rt.alloc(), FAULTY)? == None);
     Ok(())
 }

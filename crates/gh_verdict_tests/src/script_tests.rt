@@ -3,7 +3,6 @@
 use gh_smt::reading::read_script;
 use gh_smt::writing::write_script;
 use std::alloc::{AllocError, Global};
-use std::test::Fail;
 
 const SCRIPT: &[u8] =
     b"(set-logic QF_UF)\n(declare-sort Loc 0)\n(declare-fun t0 () Loc)\n(declare-fun b0 (Loc Loc Loc) Bool)\n(declare-fun h0 (Loc Loc) Bool)\n(declare-fun a0 (Loc) Bool)\n(declare-fun d0 () Bool)\n(assert (not (a0 t0)))\n(assert (or d0 (not (h0 t0 t0))))\n(assert (b0 t0 t0 t0))\n(assert (or (= t0 t0) (not d0) d0 d0))\n(check-sat)\n(exit)\n";
@@ -39,18 +38,24 @@ fn is_none(alloc: Global, text: &[u8]) -> Result<bool, AllocError> {
 }
 
 #[test]
-fn read_and_written(rt: HostRuntime) -> Result<(), Fail> {
+fn read_and_written(rt: HostRuntime) -> Result<(), AllocError> {
     assert!(rt; reads_back(rt.alloc(), SCRIPT, 4)?);
     assert!(rt; reads_back(rt.alloc(), EMPTY, 0)?);
     Ok(())
 }
 
+const NO_SCRIPTS: &[&[u8]] = &[
+    b"",
+    ALONE_IN_OR,
+    OUT_OF_RANGE,
+    TERMS_TURNED,
+    NUMBERS_SKIPPED,
+];
+
 #[test]
-fn no_scripts(rt: HostRuntime) -> Result<(), Fail> {
-    assert!(rt; is_none(rt.alloc(), b"")?);
-    assert!(rt; is_none(rt.alloc(), ALONE_IN_OR)?);
-    assert!(rt; is_none(rt.alloc(), OUT_OF_RANGE)?);
-    assert!(rt; is_none(rt.alloc(), TERMS_TURNED)?);
-    assert!(rt; is_none(rt.alloc(), NUMBERS_SKIPPED)?);
+fn no_scripts(rt: HostRuntime) -> Result<(), AllocError> {
+    for text in NO_SCRIPTS {
+        assert!(rt; is_none(rt.alloc(), text)?);
+    }
     Ok(())
 }

@@ -28,14 +28,14 @@ use gh_types::counts::MOST_BYTES;
 use std::alloc::{AllocError, Global};
 
 // What is found of a section over bounded clauses: they have a model, and the section is valid for them.
-#[derive(Clone, Copy, Debug, PartialEq, Eq)]
+#[derive(Clone, Copy, PartialEq, Eq)]
 struct Judged {
     modelled: bool,
     shown: bool,
 }
 
 // How many cells, and what is found where so many and one more are the bound.
-#[derive(Clone, Copy, Debug, PartialEq, Eq)]
+#[derive(Clone, Copy, PartialEq, Eq)]
 struct Sides {
     cells: u32,
     at: Judged,
@@ -147,21 +147,20 @@ fn bounds_in(alloc: Global, text: &[u8], number: u32) -> Result<Option<Sides>, A
     }
 }
 
-#[test]
-fn a_section_of_its_bound_alone(rt: HostRuntime) -> Result<(), AllocError> {
-    let at = Judged {
+const EXPECTED: Sides = Sides {
+    cells: 2,
+    at: Judged {
         modelled: false,
         shown: true,
-    };
-    let above = Judged {
+    },
+    above: Judged {
         modelled: true,
         shown: false,
-    };
-    let expected = Sides {
-        cells: 2,
-        at,
-        above,
-    };
-    assert_eq!(rt; bounds_in(rt.alloc(), CUT, 2)?, Some(expected));
+    },
+};
+
+#[test]
+fn a_section_of_its_bound_alone(rt: HostRuntime) -> Result<(), AllocError> {
+    assert!(rt; bounds_in(rt.alloc(), CUT, 2)? == Some(EXPECTED));
     Ok(())
 }

@@ -11,7 +11,6 @@ use gh_base::sizes::Sizes;
 use gh_inst::instances::Instances;
 use gh_inst::naming::instance;
 use std::alloc::{AllocError, Global};
-use std::test::Fail;
 
 // Numbers in no order that one sees.
 #[derive(Drop)]
@@ -200,7 +199,7 @@ fn count_by_structures(alloc: Global, row: Row) -> Result<Option<usize>, AllocEr
 }
 
 #[test]
-fn beside_all_structures(rt: HostRuntime) -> Result<(), Fail> {
+fn beside_all_structures(rt: HostRuntime) -> Result<(), AllocError> {
     let rows = [(1, 1, 3), (1, 3, 6), (2, 1, 6)];
     for (terms, versions, clauses) in rows {
         let row = Row {
@@ -233,7 +232,7 @@ fn count_written_out(alloc: Global, row: Row) -> Result<Option<usize>, AllocErro
 }
 
 #[test]
-fn beside_written_out(rt: HostRuntime) -> Result<(), Fail> {
+fn beside_written_out(rt: HostRuntime) -> Result<(), AllocError> {
     let rows = [(2, 2, 12), (3, 1, 12), (3, 2, 20), (4, 1, 20)];
     for (terms, versions, clauses) in rows {
         let row = Row {
