@@ -29,7 +29,7 @@ named_or (v ∷ vs) x = elim (cases_eq v x) [
 pub walk_suc : (h : Heap) (n x : ℕ) → walk h (suc n) x ≡ succ h (walk h n x)
 walk_suc h n x = steps_suc (succ h) n x
 
-on_walk : (V : List ℕ) (h : Heap) (P : ℕ → Type 0) → ((z : ℕ) → Contains V z → P z) → ((p : ℕ) → Allocated h p → IsUnnamed V (succ h p) → P p → P (succ h p)) → (n k : ℕ) → Contains V n → P (walk h k n)
+on_walk : (V : List ℕ) (h : Heap) (P : ℕ → Type 0) → ((z : ℕ) → Contains V z → P z) → ((cell : ℕ) → Allocated h cell → IsUnnamed V (succ h cell) → P cell → P (succ h cell)) → (n k : ℕ) → Contains V n → P (walk h k n)
 on_walk V h P named step n zero c = named n c
 on_walk V h P named step n (suc k) c = subst P (sym (walk_suc h k n)) (elim (named_or V (succ h (walk h k n))) [
   | inl c' ↦ named _ c'
@@ -40,7 +40,7 @@ on_walk V h P named step n (suc k) c = subst P (sym (walk_suc h k n)) (elim (nam
 ])
 
 -- induction over an owned heap: P holds of each cell, if it holds of what is named, and of an unnamed place where it holds of a cell that points there
-pub owned_induction : (V : List ℕ) (h : Heap) → Owned V h → (P : ℕ → Type 0) → ((z : ℕ) → Contains V z → P z) → ((p : ℕ) → Allocated h p → IsUnnamed V (succ h p) → P p → P (succ h p)) → (c : ℕ) → Allocated h c → P c
+pub owned_induction : (V : List ℕ) (h : Heap) → Owned V h → (P : ℕ → Type 0) → ((z : ℕ) → Contains V z → P z) → ((cell : ℕ) → Allocated h cell → IsUnnamed V (succ h cell) → P cell → P (succ h cell)) → (c : ℕ) → Allocated h c → P c
 owned_induction V h own P named step c a = elim (named_or V c) [
   | inl n ↦ named c n
   | inr un ↦ let from = own.reached c a un in subst P from.4 (on_walk V h P named step from.0 from.1 from.2)
@@ -83,25 +83,25 @@ last_named V h own c a un = elim (owned_induction V h own (λ z. Contains V z �
 
 -- P goes backwards: what is unnamed in it is pointed to from within it
 abbrev pub GoesBack : List ℕ → Heap → (ℕ → Type 0) → Type 0
-GoesBack V h P = (c : ℕ) → P c → IsUnnamed V c → (p : ℕ) × (get h p ≡ Some c) × P p
+GoesBack V h P = (c : ℕ) → P c → IsUnnamed V c → (cell : ℕ) × (get h cell ≡ Some c) × P cell
 
 -- P goes onwards: what is unnamed and pointed to from within it is in it
 abbrev pub GoesOn : List ℕ → Heap → (ℕ → Type 0) → Type 0
-GoesOn V h P = (p c : ℕ) → P p → get h p ≡ Some c → IsUnnamed V c → P c
+GoesOn V h P = (cell c : ℕ) → P cell → get h cell ≡ Some c → IsUnnamed V c → P c
 
 -- what comes from within P to an unnamed place comes from each cell that points there
-pub before_it : (V : List ℕ) (h : Heap) → Owned V h → (P : ℕ → Type 0) → GoesBack V h P → (p : ℕ) → Allocated h p → IsUnnamed V (succ h p) → P (succ h p) → P p
-before_it V h own P back p a un here =
-    let from = back (succ h p) here un in
-    subst P (own.one_predecessor (succ h p) from.0 p un from.1 (at_succ h p a)) from.2
+pub before_it : (V : List ℕ) (h : Heap) → Owned V h → (P : ℕ → Type 0) → GoesBack V h P → (cell : ℕ) → Allocated h cell → IsUnnamed V (succ h cell) → P (succ h cell) → P cell
+before_it V h own P back cell a un here =
+    let from = back (succ h cell) here un in
+    subst P (own.one_predecessor (succ h cell) from.0 cell un from.1 (at_succ h cell a)) from.2
 
 -- two sets that go backwards and share no named place share none
 pub apart_everywhere : (V : List ℕ) (h : Heap) → Owned V h → (P Q : ℕ → Type 0) → GoesBack V h P → GoesBack V h Q → ((z : ℕ) → Contains V z → P z → Q z → ⊥) → (z : ℕ) → P z → Q z → ⊥
-apart_everywhere V h own P Q p q apart z u v = elim (named_or V z) [
+apart_everywhere V h own P Q left right apart z u v = elim (named_or V z) [
   | inl c ↦ apart z c u v
-  | inr un ↦ elim (own.points (p z u un).0 z (p z u un).1) [
+  | inr un ↦ elim (own.points (left z u un).0 z (left z u un).1) [
     | inl c ↦ un c
-    | inr a ↦ owned_induction V h own (λ y. P y → Q y → ⊥) apart (λ y b out none s t. none (before_it V h own P p y b out s) (before_it V h own Q q y b out t)) z a u v
+    | inr a ↦ owned_induction V h own (λ y. P y → Q y → ⊥) apart (λ y b out none s t. none (before_it V h own P left y b out s) (before_it V h own Q right y b out t)) z a u v
   ]
 ]
 

@@ -108,8 +108,8 @@ segment_back V h x y named c (b, other) un = from b.at b.passes (met_between h x
     from (suc i) e l = (walk h i x, at_succ h (walk h i x) (allocated_before h b.distance i (omega arith)) ∙ ap Some (sym (walk_suc h i x) ∙ e), between_met h x y (walk h i x) b.end b.distance (i, omega arith, refl))
 
 choice_back : (t : Bool) (V : List ℕ) (h : Heap) (P Q : ℕ → Type 0) → GoesBack V h P → GoesBack V h Q → GoesBack V h (λ z. MatchBool t (P z) (Q z))
-choice_back true V h P Q p q = p
-choice_back false V h P Q p q = q
+choice_back true V h P Q first second = first
+choice_back false V h P Q first second = second
 
 mutual
   pub goes_back : (f : Formula) (s : Store) (h : Heap) (V : List ℕ) → HasNames f s h V → GoesBack V h (Covers f s h)
@@ -190,8 +190,8 @@ cell_met h x v null here =
     (λ q w e. let same : x ≡ q = only_cell x v (one_cell x v) is q (w, e) in cc (subst (λ r. get (one_cell x v) r ≡ Some v) same is.here, subst (λ r. get h r ≡ Some v) same here), is)
 
 choice_met : (t : Bool) (f g : Formula) (s : Store) (h : Heap) (P Q : Type 0) → (P → IsMet f s h) → (Q → IsMet g s h) → MatchBool t P Q → (a : Heap) × IsPart a h × MatchBool t (Meaning f s a) (Meaning g s a)
-choice_met true f g s h P Q p q r = p r
-choice_met false f g s h P Q p q r = q r
+choice_met true f g s h P Q first second r = first r
+choice_met false f g s h P Q first second r = second r
 
 mutual
   is_met : (f : Formula) (s : Store) (h : Heap) (V : List ℕ) → get h 0 ≡ None → Owned V h → HasNames f s h V → Reads f s h V → IsMet f s h

@@ -30,7 +30,7 @@ empty_splits h = record { disjoint = λ q. inl (get_nothing q); union = λ q. ap
 
 -- what holds of the empty heap alone takes nothing
 pub takes_nothing : (P : Heap → Type 0) (h : Heap) → P no_cells → Takes P h h
-takes_nothing P h p = record { part = no_cells; splits = empty_splits h; meets = p }
+takes_nothing P h holds = record { part = no_cells; splits = empty_splits h; meets = holds }
 
 -- a cell that is allocated comes back
 put_back : (h : Heap) (x v : ℕ) → get h x ≡ Some v → insert (remove h x) x v ≡ h

@@ -61,10 +61,10 @@ one_body _ r q x y c d (a_body {ts = ts} {b = i} a) (a_body {b = j} b) =
 
 pub one_procedure_at : (ts r q : List Token) (x y : Procedure) → SpellsProcedure ts x r → SpellsProcedure ts y q → AreOne x y r q
 one_procedure_at _ r q x y (a_procedure {c = c} {ts = ts} {us = us} {vs = vs} {ws = ws} {zs = zs} {xs = xs} {ys = ys} {x = f} {l = g} {b = b} h1 r1 n1 e1 b1)
-    (a_procedure {c = c2} {us = us2} {vs = vs2} {ws = ws2} {zs = zs2} {xs = xs2} {ys = ys2} {x = f2} {l = g2} {b = d} h2 r2 n2 e2 b2) =
+    (a_procedure {c = c2} {us = us2} {vs = vs2} {ws = ws2} {zs = zs2} {xs = xs2} {ys = ys2} {x = given} {l = g2} {b = d} h2 r2 n2 e2 b2) =
     let p1 = one_header ts us us2 xs xs2 h1 h2 in
     let p2 = one_results us vs vs2 ys ys2 r1 (subst (λ z. SpellsResults z ys2 vs2) (sym p1.rest) r2) in
-    let p3 = one_clause kw.Requires vs f f2 ws ws2 n1 (subst (λ z. SpellsClause kw.Requires z f2 ws2) (sym p2.rest) n2) in
+    let p3 = one_clause kw.Requires vs f given ws ws2 n1 (subst (λ z. SpellsClause kw.Requires z given ws2) (sym p2.rest) n2) in
     let p4 = one_ensures ws g g2 zs zs2 e1 (subst (λ z. SpellsEnsures z g2 zs2) (sym p3.rest) e2) in
     let p5 = one_body zs r q b d c c2 b1 (subst (λ z. SpellsBody z d c2 q) (sym p4.rest) b2) in
     let s1 = p1.value in let s2 = p2.value in let s3 = p3.value in let s4 = p4.value in let s5 = p5.value in let s6 = p5.close in

@@ -66,8 +66,8 @@ mutual
       let v = one_clause kw.Invariant us i i2 vs vs2 a (subst (λ z. SpellsClause kw.Invariant z i2 vs2) (sym (tail_one w.rest)) b) in
       let u = one_block vs r q l l2 c d m (subst (λ z. SpellsBlock z l2 d q) (sym v.rest) n) in
       let st = w.value in let si = v.value in let sl = u.value in let sc = u.close in record { value = cc; rest = u.rest }
-  one_statement ts r q x y (a_call {f = f} {p = p} {q = o} {us = us} {xs = xs} {es = es} a v) (a_call {f = f2} {p = p2} {q = o2} {us = us2} {xs = xs2} {es = es2} b w) =
-      let t = one_targets ts (named f ∷ sign sg.ParenOpen p ∷ us) (named f2 ∷ sign sg.ParenOpen p2 ∷ us2) xs xs2 a b in
+  one_statement ts r q x y (a_call {f = f} {p = p} {q = o} {us = us} {xs = xs} {es = es} a v) (a_call {f = callee} {p = p2} {q = o2} {us = us2} {xs = xs2} {es = es2} b w) =
+      let t = one_targets ts (named f ∷ sign sg.ParenOpen p ∷ us) (named callee ∷ sign sg.ParenOpen p2 ∷ us2) xs xs2 a b in
       let m : us2 ≡ us = let e = t.rest in cc in
       let z = one_values sg.ParenClose us (λ e. cc) es es2 (sign sg.Semicolon o ∷ r) (sign sg.Semicolon o2 ∷ q) v (subst (λ k. SpellsValues sg.ParenClose k es2 (sign sg.Semicolon o2 ∷ q)) m w) in
       let e1 = t.value in let e2 = t.rest in let e3 = z.value in record { value = cc; rest = tail_one z.rest }

@@ -17,7 +17,7 @@ use Rattle.gh_ast.specs.Rules.{HasName}
 use Rattle.gh_ast.proofs.Lists.{member_first, member_later, member_cases, no_member}
 
 pub any_of : {X : Type 0} (P : X → Type 0) (xs : List X) (x : X) → Contains xs x → P x → Any P xs
-any_of P xs x there p = (there.0, x, there.1, there.2, p)
+any_of P xs x there holds = (there.0, x, there.1, there.2, holds)
 
 pub member_map : {X Y : Type 0} (f : X → Y) (xs : List X) (x : X) → Contains xs x → Contains (map f xs) (f x)
 member_map f [] x there = absurd (no_member x there)

@@ -92,8 +92,8 @@ place_mention : (P Q : Term → Type 0) → ((t : Term) → P t ⊎ Q t) → (o 
 place_mention P Q tell None = inr (λ t e. absurd (none-some t e))
 place_mention P Q tell (Some x) =
     elim (tell x) as (λ _. ((t : Term) × (Some x ≡ Some t) × P t) ⊎ ((t : Term) → Some x ≡ Some t → Q t)) [
-      | inl p ↦ inl (x, refl, p)
-      | inr q ↦ inr (λ t e. subst Q (same_Some x t e) q)
+      | inl holds ↦ inl (x, refl, holds)
+      | inr other ↦ inr (λ t e. subst Q (same_Some x t e) other)
     ]
 
 -- what holds of no term of an atom, or of one

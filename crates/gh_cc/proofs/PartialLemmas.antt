@@ -214,22 +214,22 @@ module _ (s : Sizes) (lits : List Lit) (m n : Interpretation) (st : IsStructureO
   normal_too (Eq x y) (Eq p q) h k e = e
   normal_too (Btwn v x y z) (Btwn w p q t) h k e =
       let f = btwn_parts m.class v w x y z p q t e in
-      let f0 = f.0 in
-      let f1 = class_too x p h.1 k.1 f.1 in
-      let f2 = class_too y q h.2 k.2 f.2 in
-      let f3 = class_too z t h.3 k.3 f.3 in
-      λ i. Btwn (f0 i) (record { 0 = f1 i }) (record { 0 = f2 i }) (record { 0 = f3 i })
+      let of_version = f.0 in
+      let of_first = class_too x p h.1 k.1 f.1 in
+      let of_second = class_too y q h.2 k.2 f.2 in
+      let of_third = class_too z t h.3 k.3 f.3 in
+      λ i. Btwn (of_version i) (record { 0 = of_first i }) (record { 0 = of_second i }) (record { 0 = of_third i })
   normal_too (Hop v x y) (Hop w p q) h k e =
       let f = hop_parts m.class v w x y p q e in
-      let f0 = f.0 in
-      let f1 = class_too x p h.1 k.1 f.1 in
-      let f2 = class_too y q h.2 k.2 f.2 in
-      λ i. Hop (f0 i) (record { 0 = f1 i }) (record { 0 = f2 i })
+      let of_version = f.0 in
+      let of_first = class_too x p h.1 k.1 f.1 in
+      let of_second = class_too y q h.2 k.2 f.2 in
+      λ i. Hop (of_version i) (record { 0 = of_first i }) (record { 0 = of_second i })
   normal_too (Alloc v x) (Alloc w p) h k e =
       let f = alloc_parts m.class v w x p e in
-      let f0 = f.0 in
-      let f1 = class_too x p h.1 k.1 f.1 in
-      λ i. Alloc (f0 i) (record { 0 = f1 i })
+      let of_version = f.0 in
+      let of_first = class_too x p h.1 k.1 f.1 in
+      λ i. Alloc (of_version i) (record { 0 = of_first i })
   normal_too (Def i) (Def j) h k e = e
   normal_too a b h k e = cc
 

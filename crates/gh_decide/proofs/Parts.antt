@@ -46,8 +46,8 @@ section_shows P c lines typed is (q, of, valid) proc there = λ x ys against.
     let found = traces_give_models P proc c x ys typed is there against in
     refute (problem (symbolic_of P proc c)) lines sound found.0 found.1.congruence found.1.clauses found.1.instances
 
-pub shown : (P : Program) (r : kept.Condition) (p : Problem) (s : Section) → IsTyped P → IsOne P r → IsGroundOf P r p → IsRefutationOf p s → IsShown P r s
-shown P r p s typed one ground is = record {
+pub shown : (P : Program) (r : kept.Condition) (asked : Problem) (s : Section) → IsTyped P → IsOne P r → IsGroundOf P r asked → IsRefutationOf asked s → IsShown P r s
+shown P r asked s typed one ground is = record {
   valid = section_shows P (condition_of r) s.lines typed there section;
   section = section;
   writable = record { first = is.first; few = is.few; spelled = is.spelled };
@@ -60,17 +60,17 @@ shown P r p s typed one ground is = record {
     section = (there.procedure, there.of, subst (λ g. IsValidSection g s.lines) (ground there.procedure there.of) is.valid)
 
 -- a model of the clauses is one of the condition
-models : (P : Program) (q : Procedure) (c : Condition) (p : Problem) (s : Tables) → p ≡ problem (symbolic_of P q c) → IsModelOf p s → abstraction.IsModelOf P q c (interpretation_of s)
-models P q c p s same is = record {
+models : (P : Program) (q : Procedure) (c : Condition) (asked : Problem) (s : Tables) → asked ≡ problem (symbolic_of P q c) → IsModelOf asked s → abstraction.IsModelOf P q c (interpretation_of s)
+models P q c asked s same is = record {
   congruence = subst (λ (g : Problem). IsCongruence g.sizes (interpretation_of s)) same is.congruence;
   instances = subst (λ (g : Problem). AreInstancesTrue g.sizes (interpretation_of s)) same is.instances;
   clauses = subst (λ (g : Problem). All (IsClauseTrue (interpretation_of s)) g.clauses) same is.clauses;
 }
 
 -- the trace of a model refutes the condition
-pub refuted : (P : Program) (r : kept.Condition) (p : Problem) (s : Tables) (xs : List Drawn) → IsTyped P → IsOne P r → IsGroundOf P r p → IsModelOf p s → AreBuilt P r (interpretation_of s) xs → Refutes P (condition_of r) xs
-refuted P r p s xs typed one ground is built =
+pub refuted : (P : Program) (r : kept.Condition) (asked : Problem) (s : Tables) (xs : List Drawn) → IsTyped P → IsOne P r → IsGroundOf P r asked → IsModelOf asked s → AreBuilt P r (interpretation_of s) xs → Refutes P (condition_of r) xs
+refuted P r asked s xs typed one ground is built =
     let c : Condition = condition_of r in
     let there : IsCondition P c = condition_one P r one in
     let q : Procedure = there.procedure in
-    subst (Refutes P c) (sym (built q there.of)) (built_is_counterexample P q c (interpretation_of s) typed there there.of (models P q c p s (ground q there.of) is))
+    subst (Refutes P c) (sym (built q there.of)) (built_is_counterexample P q c (interpretation_of s) typed there there.of (models P q c asked s (ground q there.of) is))

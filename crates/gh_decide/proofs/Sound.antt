@@ -119,18 +119,18 @@ module _ (P : Program) (E : Config → Type 0) (F : Heap) (b : Statements) (xs :
 
 -- a test goes one of two ways, each sound
 either_sound : (P : Program) (E : Config → Type 0) (n : ℕ) (proc : Procedure) (s : Store) (h : Heap) (r1 r2 : Statements) (below : List Activation) (g1 g2 : Graph) (x : State) (way : Bool) → Safe P proc (cond way g1 g2) x → (Safe P proc g1 x → Sound P E n (working proc s h r1 below)) → (Safe P proc g2 x → Sound P E n (working proc s h r2 below)) → Sound P E n (working proc s h (cond way r1 r2) below)
-either_sound P E n proc s h r1 r2 below g1 g2 x true safe f1 f2 = f1 safe
-either_sound P E n proc s h r1 r2 below g1 g2 x false safe f1 f2 = f2 safe
+either_sound P E n proc s h r1 r2 below g1 g2 x true safe when_true when_false = when_true safe
+either_sound P E n proc s h r1 r2 below g1 g2 x false safe when_true when_false = when_false safe
 
 pub sound_test : (P : Program) (E : Config → Type 0) (n : ℕ) (proc : Procedure) (s : Store) (a h F : Heap) (r1 r2 : Statements) (below : List Activation) (t : Test) (g1 g2 : Graph) → Splits h a F → Safe P proc (tested t g1 g2) (state s a) →
     (Safe P proc g1 (state s a) → Sound P E n (working proc s h r1 below)) → (Safe P proc g2 (state s a) → Sound P E n (working proc s h r2 below)) →
     (outcome s h t ≡ None → ⊥) × ((way : Bool) → outcome s h t ≡ Some way → Sound P E n (working proc s h (cond way r1 r2) below))
-sound_test P E n proc s a h F r1 r2 below t g1 g2 split safe f1 f2 =
+sound_test P E n proc s a h F r1 r2 below t g1 g2 split safe when_true when_false =
     let w = lead P proc t g1 g2 (state s a) safe in
     let up : outcome s h t ≡ Some w.0 = outcome_whole s h a F split t w.0 w.1 in (
       λ none. not_both (outcome s h t) w.0 up none,
       λ way e. let same : w.0 ≡ way = one_value (outcome s h t) w.0 way up e in
-          subst (λ v. Sound P E n (working proc s h (cond v r1 r2) below)) same (either_sound P E n proc s h r1 r2 below g1 g2 (state s a) w.0 w.2 f1 f2),
+          subst (λ v. Sound P E n (working proc s h (cond v r1 r2) below)) same (either_sound P E n proc s h r1 r2 below g1 g2 (state s a) w.0 w.2 when_true when_false),
     )
 
 -- the test of a loop: true, it leads on in the loop's part; false, in that part with what was set aside
@@ -138,7 +138,7 @@ pub sound_loop_test : (P : Program) (E : Config → Type 0) (n : ℕ) (proc : Pr
     Splits h c (union d F) → Splits h (union c d) F → Splits (union c d) c d → Safe P proc (tested t g1 dead_end) (state s c) → Safe P proc (tested t dead_end g2) (state s (union c d)) →
     (Safe P proc g1 (state s c) → Sound P E n (working proc s h r1 below)) → (Safe P proc g2 (state s (union c d)) → Sound P E n (working proc s h r2 below)) →
     (outcome s h t ≡ None → ⊥) × ((way : Bool) → outcome s h t ≡ Some way → Sound P E n (working proc s h (cond way r1 r2) below))
-sound_loop_test P E n proc s c d h F r1 r2 below t g1 g2 small large inner safe out f1 f2 =
+sound_loop_test P E n proc s c d h F r1 r2 below t g1 g2 small large inner safe out when_true when_false =
     let w = lead P proc t g1 dead_end (state s c) safe in
     let v = lead P proc t dead_end g2 (state s (union c d)) out in
     let up : outcome s h t ≡ Some w.0 = outcome_whole s h c (union d F) small t w.0 w.1 in
@@ -151,5 +151,5 @@ sound_loop_test P E n proc s c d h F r1 r2 below t g1 g2 small large inner safe 
     )
   where
     ways : (b : Bool) → Safe P proc (cond b g1 dead_end) (state s c) → Safe P proc (cond b dead_end g2) (state s (union c d)) → Sound P E n (working proc s h (cond b r1 r2) below)
-    ways true x y = f1 x
-    ways false x y = f2 y
+    ways true x y = when_true x
+    ways false x y = when_false y

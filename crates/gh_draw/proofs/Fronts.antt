@@ -30,13 +30,13 @@ Each P (c ∷ cs) = P c × Each P cs
 -- the longest front of bytes with a property is one
 pub span_one : (P : ℕ → Type 0) (Stops : List ℕ → Type 0) → ((c : ℕ) (cs : List ℕ) → Stops (c ∷ cs) → P c → ⊥)
     → (l m a b : List ℕ) → Each P l → Each P m → Stops a → Stops b → l ++ a ≡ m ++ b → (l ≡ m) × (a ≡ b)
-span_one P Stops stop [] [] a b p q s t e = (refl, e)
-span_one P Stops stop [] (y ∷ ys) a b p q s t e = absurd (stop y (ys ++ b) (subst Stops e s) q.0)
-span_one P Stops stop (x ∷ xs) [] a b p q s t e = absurd (stop x (xs ++ a) (subst Stops (sym e) t) p.0)
-span_one P Stops stop (x ∷ xs) (y ∷ ys) a b p q s t e =
+span_one P Stops stop [] [] a b one other s t e = (refl, e)
+span_one P Stops stop [] (y ∷ ys) a b one other s t e = absurd (stop y (ys ++ b) (subst Stops e s) other.0)
+span_one P Stops stop (x ∷ xs) [] a b one other s t e = absurd (stop x (xs ++ a) (subst Stops (sym e) t) one.0)
+span_one P Stops stop (x ∷ xs) (y ∷ ys) a b one other s t e =
     let first : x ≡ y = cc in
     let others : xs ++ a ≡ ys ++ b = cc in
-    let rest = span_one P Stops stop xs ys a b p.1 q.1 s t others in
+    let rest = span_one P Stops stop xs ys a b one.1 other.1 s t others in
     (rw (first, rest.0) refl, rest.1)
 
 pub own_digits : IsNumeralModel (λ ds. all_ascii_digits ds ≡ true) (digits_value 10)

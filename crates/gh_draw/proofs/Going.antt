@@ -14,7 +14,7 @@ pub record Turns {X : Type 0} (P R : List X → List ℕ → Type 0) (x : X) : T
   pub whole : (fs : List X) (rest : List ℕ) → P fs rest → (es : List X) × (fs ≡ x ∷ es) × R es rest
 
 pub goes_begin : {X : Type 0} (P : List X → List ℕ → Type 0) → Goes P P []
-goes_begin P = record { sound = λ es rest p. p; whole = λ fs rest p. (fs, refl, p) }
+goes_begin P = record { sound = λ es rest holds. holds; whole = λ fs rest holds. (fs, refl, holds) }
 
 one_more : {X : Type 0} (done : List X) (x : X) (es : List X) → (done ++ x ∷ []) ++ es ≡ done ++ x ∷ es
 one_more done x es = append_assoc done (x ∷ []) es
@@ -29,4 +29,4 @@ goes_more {X} P Q R done x g t = record {
     at_turn fs rest es is (ds, turn, r) = (ds, is ∙ ap (λ l. done ++ l) turn ∙ sym (one_more done x ds), r)
 
     after : (fs : List X) (rest : List ℕ) → (es : List X) × (fs ≡ done ++ es) × P es rest → (es : List X) × (fs ≡ (done ++ x ∷ []) ++ es) × R es rest
-    after fs rest (es, is, p) = at_turn fs rest es is (t.whole es rest p)
+    after fs rest (es, is, holds) = at_turn fs rest es is (t.whole es rest holds)

@@ -11,8 +11,8 @@ use Rattle.gh_entail.specs.Checks.{UndeclaredErrors}
 use Rattle.gh_entail.specs.Rules.{in_question, UnknownName, DuplicateName, Broken, unknown_name, duplicate_name}
 
 not_known : (b : Bool) (P : Type 0) → IsTrue b ↔ P → b ≡ false → P → ⊥
-not_known true P k e p = cc
-not_known false P k e p = let t = k.1 p in cc
+not_known true P k e holds = cc
+not_known false P k e holds = let t = k.1 holds in cc
 
 is_unknown : (b : Bool) (P : Type 0) → IsTrue b ↔ P → (P → ⊥) → b ≡ false
 is_unknown true P k n = absurd (n (k.0 refl))

@@ -21,7 +21,7 @@ abbrev Late : (ℕ → Type 0) → Type 0
 Late P = (k : ℕ) × ((z : ℕ) → k ≤ z → P z)
 
 both_late : (P Q : ℕ → Type 0) → Late P → Late Q → Late (λ z. P z × Q z)
-both_late P Q p q = (p.0 + q.0, λ z l. (p.1 z (omega (arith, l)), q.1 z (omega (arith, l))))
+both_late P Q first second = (first.0 + second.0, λ z l. (first.1 z (omega (arith, l)), second.1 z (omega (arith, l))))
 
 -- a heap with one cell, which leads to itself
 abbrev alone : ℕ → Heap
@@ -36,8 +36,8 @@ no_step z x y l b =
     absurd (omega (arith, l, same))
 
 by_choice : (t : Bool) (P Q : ℕ → Type 0) → Late (λ z. P z → ⊥) → Late (λ z. Q z → ⊥) → Late (λ z. MatchBool t (P z) (Q z) → ⊥)
-by_choice true P Q p q = p
-by_choice false P Q p q = q
+by_choice true P Q first second = first
+by_choice false P Q first second = second
 
 -- from some number on, no assertion speaks of that cell
 mutual

@@ -14,8 +14,8 @@ use Rattle.gh_entail.specs.Alike.{LooksLike, IsShown}
 use Rattle.gh_assert.proofs.Reading.{reads}
 
 same_choice : (t : Bool) (P Q P' Q' : Type 0) → P ↔ P' → Q ↔ Q' → MatchBool t P Q ↔ MatchBool t P' Q'
-same_choice true P Q P' Q' p q = p
-same_choice false P Q P' Q' p q = q
+same_choice true P Q P' Q' first second = first
+same_choice false P Q P' Q' first second = second
 
 same_content : (V : List ℕ) (h k : Heap) → LooksLike V h k → (x v : ℕ) → Contains V x → Contains V (succ h x) → (get h x ≡ Some v) ↔ (get k x ≡ Some v)
 same_content V h k L x v cx cs = (

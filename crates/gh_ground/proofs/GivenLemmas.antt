@@ -104,7 +104,7 @@ up_to_one i x y P old t new at same step g = record {
             | inl first ↦ inl first
             | inr u ↦ inr (up_more i x P old.sizes old.classes a u)
           ]
-          | inr p ↦ inr (record { term = y; below = omega arith; same = same'; is = subst (λ (z : Sizes). P y z old.classes a) g.sizes (subst (λ (cs : List Term). P y t.sizes cs a) g.classes p) })
+          | inr holds ↦ inr (record { term = y; below = omega arith; same = same'; is = subst (λ (z : Sizes). P y z old.classes a) g.sizes (subst (λ (cs : List Term). P y t.sizes cs a) g.classes holds) })
         ],
         λ e. elim e as (λ _. truth_in new a ≡ true) [
           | inl first ↦ v.1 (inl (w.1 (inl first)))
@@ -114,8 +114,8 @@ up_to_one i x y P old t new at same step g = record {
                 let lt = u.below in
                 let last : u.term.0 ≡ y.0 = omega arith in
                 let one : u.term ≡ y = λ j. record { 0 = last j } in
-                let p : P y old.sizes old.classes a = subst (λ (q : Term). P q old.sizes old.classes a) one u.is in
-                v.1 (inr (subst (λ (z : Sizes). P y z t.classes a) (sym g.sizes) (subst (λ (cs : List Term). P y old.sizes cs a) (sym g.classes) p)))
+                let holds : P y old.sizes old.classes a = subst (λ (z : Term). P z old.sizes old.classes a) one u.is in
+                v.1 (inr (subst (λ (z : Sizes). P y z t.classes a) (sym g.sizes) (subst (λ (cs : List Term). P y old.sizes cs a) (sym g.classes) holds)))
           ]
         ],
       );
@@ -135,9 +135,9 @@ exchanged P Q old new g f = record {
   classes = g.classes;
   truths = λ a r h.
       let w = g.truths a r h in
-      let q = f a r h in (
-        λ e. elim (w.0 e) as (λ _. (truth_in old a ≡ true) ⊎ Q old.sizes old.classes a) [ inl was ↦ inl was | inr p ↦ inr (q.0 p) ],
-        λ e. elim e as (λ _. truth_in new a ≡ true) [ inl was ↦ w.1 (inl was) | inr p ↦ w.1 (inr (q.1 p)) ],
+      let both = f a r h in (
+        λ e. elim (w.0 e) as (λ _. (truth_in old a ≡ true) ⊎ Q old.sizes old.classes a) [ inl was ↦ inl was | inr holds ↦ inr (both.0 holds) ],
+        λ e. elim e as (λ _. truth_in new a ≡ true) [ inl was ↦ w.1 (inl was) | inr holds ↦ w.1 (inr (both.1 holds)) ],
       );
 }
 

@@ -118,7 +118,7 @@ there (y ∷ ys) zero x e = (omega arith, cc)
 there (y ∷ ys) (suc k) x e = let t = there ys k x e in (omega (arith, t.0), t.1)
 
 pub take_more_all : {X : Type 0} (P : X → Type 0) (xs : List X) (k : ℕ) (x : X) → slice_get xs k ≡ Some x → All P (take k xs) → P x → All P (take (k + 1) xs)
-take_more_all P xs k x e a p = let t = there xs k x e in All-more P xs k x t.0 a (subst P (sym t.1) p)
+take_more_all P xs k x e a holds = let t = there xs k x e in All-more P xs k x t.0 a (subst P (sym t.1) holds)
 
 last_or : {P : ℕ → Type 0} (k v : ℕ) → (v < k) ⊎ (v ≡ k) → ((u : ℕ) → u < k → P u) → P k → P v
 last_or k v (inl below) earlier now = earlier v below

@@ -89,7 +89,7 @@ pub first_of_map : {X Y : Type 0} (P : X → Type 0) (Q : Y → Type 0) (g : X �
 first_of_map P Q g to from [] y f = absurd (first_off Q [] y f (All-nil Q))
 first_of_map P Q g to from (x ∷ xs) y f =
     elim (head_or_later Q (g x) (map g xs) y f.before f.after f.here f.earlier f.without) [
-      | inl h ↦ (x, one_first P x xs (λ p. h.1 (to x p)), sym h.0)
+      | inl h ↦ (x, one_first P x xs (λ holds. h.1 (to x holds)), sym h.0)
       | inr h ↦ let w = first_of_map P Q g to from xs y h.1 in (w.0, later_first P x xs w.0 (from x h.0) w.1, w.2)
     ]
 

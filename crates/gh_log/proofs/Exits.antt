@@ -15,7 +15,7 @@ within P Q OutOfMemory f h = tt
 pub exit : {X Y Z : Type 0} (P : X → List ℕ → Type 0) (Q : Y → List ℕ → Type 0) (view : Z → Y) (answer : Result Z Refusal) (rest : List ℕ) (e : Refusal)
     → (SpellsNothing P → SpellsNothing Q) → IsPartRefusal P e → IsErrAnd answer (λ d. d ≡ e) → IsPartRead Q view answer rest
 exit P Q view answer rest e f h r =
-    let p = err_from_is_err_and answer r in rw (p.1, p.2) (within P Q e f h)
+    let given = err_from_is_err_and answer r in rw (given.1, given.2) (within P Q e f h)
 
 -- nothing is said of what an error holds
 pub not_ok : {X : Type 0} (Q : Refusal → Type 0) (P : X → Type 0) (answer : Result X Refusal) → IsErrAnd answer Q → IfOk answer P

@@ -37,9 +37,9 @@ pub begins_not : {X : Type 0} {k : X → Token} {us xs : List Token} → NoToken
 begins_not {k = k} n (same {t = t} {ts = ts}) q rest e = let p : t ∷ ts ≡ k q ∷ ts = cc in n q ts p
 begins_not n none q rest e = n q rest e
 
-pub told : {X : Type 0} {k : X → Token} {us vs : List Token} (p : X) (P Q : List Token → List Token → Type 0) → us ≡ k p ∷ vs → ((p : X) (xs r : List Token) → Q (k p ∷ xs) r → P (k p ∷ xs) r)
+pub told : {X : Type 0} {k : X → Token} {us vs : List Token} (x : X) (P Q : List Token → List Token → Type 0) → us ≡ k x ∷ vs → ((x : X) (xs r : List Token) → Q (k x ∷ xs) r → P (k x ∷ xs) r)
     → (xs r : List Token) → SameNext us xs → Q xs r → P xs r
-told p P Q e part xs r d h = let b = begins e d in subst (λ z. P z r) (sym b.1) (part p b.0 r (subst (λ z. Q z r) b.1 h))
+told x P Q e part xs r d h = let b = begins e d in subst (λ z. P z r) (sym b.1) (part x b.0 r (subst (λ z. Q z r) b.1 h))
 
 -- what was read is read before each rest that is alike, and nothing else is read
 pub record Exact (P : List Token → List Token → Type 0) (ts us : List Token) : Type 0 where

@@ -22,9 +22,9 @@ use Rattle.gh_parse.proofs.ValueForms.{exact_expr, ends_expr}
 abbrev pub Between : Sign → Sign → (List Token → List Token → Type 0) → List Token → List Token → Type 0
 Between opening closing A = Seq (Tok (sign opening)) (Seq A (Tok (sign closing)))
 
-pub between : {X : Type 0} {opening closing : Sign} {P : List Token → X → List Token → Type 0} {p : Span} {ts rest : List Token} {x : X} (q : Span)
-    → P ts x (sign closing q ∷ rest) → IsBetween opening closing P (sign opening p ∷ ts) x rest
-between {p = p} {ts = ts} q a = record { first = p; last = q; inner = ts; front = refl; within = a }
+pub between : {X : Type 0} {opening closing : Sign} {P : List Token → X → List Token → Type 0} {start : Span} {ts rest : List Token} {x : X} (q : Span)
+    → P ts x (sign closing q ∷ rest) → IsBetween opening closing P (sign opening start ∷ ts) x rest
+between {start = start} {ts = ts} q a = record { first = start; last = q; inner = ts; front = refl; within = a }
 
 pub make_between : {X : Type 0} {opening closing : Sign} {P : List Token → X → List Token → Type 0} (xs r : List Token)
     → Between opening closing (Any P) xs r → Any (IsBetween opening closing P) xs r
@@ -40,22 +40,22 @@ exact_between exact ts us (any b) =
     exact_by make_between (part_between _) (exact_seq (exact_tok (taken_tok _ b.front)) (exact_seq (exact _ _ (any b.within)) (exact_tok tok)))
 
 -- the same where the part's own law is known already
-pub exact_within : {X : Type 0} {opening closing : Sign} {P : List Token → X → List Token → Type 0} {p q : Span} {ts rest : List Token}
-    → Exact (Any P) ts (sign closing q ∷ rest) → Exact (Any (IsBetween opening closing P)) (sign opening p ∷ ts) rest
+pub exact_within : {X : Type 0} {opening closing : Sign} {P : List Token → X → List Token → Type 0} {start q : Span} {ts rest : List Token}
+    → Exact (Any P) ts (sign closing q ∷ rest) → Exact (Any (IsBetween opening closing P)) (sign opening start ∷ ts) rest
 exact_within f = exact_by make_between (part_between _) (exact_seq (exact_tok tok) (exact_seq f (exact_tok tok)))
 
 pub ends_between : {X : Type 0} {F : List Token → Type 0} {opening closing : Sign} {P : List Token → X → List Token → Type 0}
-    → ((p : Span) → goes_on (sign opening p) ≡ false) → ((p : Span) → goes_on (sign closing p) ≡ false) → Ends EndsHere (Any P) → Ends F (Any (IsBetween opening closing P))
+    → ((start : Span) → goes_on (sign opening start) ≡ false) → ((start : Span) → goes_on (sign closing start) ≡ false) → Ends EndsHere (Any P) → Ends F (Any (IsBetween opening closing P))
 ends_between f g e = ends_by make_between (ends_seq (ends_tok first_place (f first_place)) (ends_seq e (ends_tok first_place (g first_place))))
 
 -- what is answered where the second sign is taken last
-pub closed : {X Y : Type 0} {opening : Sign} {P : List Token → X → List Token → Type 0} {p : Span} {ts us vs : List Token} (F : List Token → Type 0) (closing : Sign) (left : List Token) (view : Y → X) (y : Y)
+pub closed : {X Y : Type 0} {opening : Sign} {P : List Token → X → List Token → Type 0} {start : Span} {ts us vs : List Token} (F : List Token → Type 0) (closing : Sign) (left : List Token) (view : Y → X) (y : Y)
     (answer : Result Span ReadError)
-    → ts ≡ sign opening p ∷ us → ((ts us : List Token) → Any P ts us → Exact (Any P) ts us) → goes_on (sign closing first_place) ≡ false → P us (view y) vs → TakesKind (sign closing) vs answer left
+    → ts ≡ sign opening start ∷ us → ((ts us : List Token) → Any P ts us → Exact (Any P) ts us) → goes_on (sign closing first_place) ≡ false → P us (view y) vs → TakesKind (sign closing) vs answer left
     → IsRuleRead F (IsBetween opening closing P) ts view (result_and answer (Ok y)) left
-closed {P = P} {p = p} {us = us} F closing left view y (Ok q) e exact g a h = record { first = p; last = q; inner = us; front = e; within = subst (λ z. P us (view y) z) h a }
-closed {p = p} {vs = vs} F closing left view y (Err r) e exact g a h =
-    within r (λ s. form make_between part_between (after p e (next exact (any a) s))) (missing F (sign closing) vs left r first_place g h)
+closed {P = P} {start = start} {us = us} F closing left view y (Ok q) e exact g a h = record { first = start; last = q; inner = us; front = e; within = subst (λ z. P us (view y) z) h a }
+closed {start = start} {vs = vs} F closing left view y (Err r) e exact g a h =
+    within r (λ s. form make_between part_between (after start e (next exact (any a) s))) (missing F (sign closing) vs left r first_place g h)
 
 abbrev pub Guard : Bool → List Token → List Token → Type 0
 Guard reads = Any (IsBetween sg.ParenOpen sg.ParenClose (SpellsTest reads))

@@ -32,11 +32,11 @@ AllThere P proc (fork l e r g k) = AllThere P proc g × AllThere P proc k
 
 path_there : (P : Program) (proc : Procedure) (g : Graph) (ss : List PathStep) (c : Check) → Path g ss c → AllThere P proc g → All (StepIsThere P proc) ss × CheckIsThere P proc c
 path_there P proc _ _ _ (at_end {c = c}) A = (All-nil (StepIsThere P proc), A)
-path_there P proc _ _ _ (arrived {g = g} {p = s} {c = c}) A = (All-nil (StepIsThere P proc), A.0)
-path_there P proc _ _ _ (Path.past {g = g} {d = d} {p = s} {ps = ss} {c = c} path) A =
+path_there P proc _ _ _ (arrived {g = g} {step = s} {c = c}) A = (All-nil (StepIsThere P proc), A.0)
+path_there P proc _ _ _ (Path.past {g = g} {d = d} {step = s} {ps = ss} {c = c} path) A =
     let rest = path_there P proc g ss c path A.2 in
     (All-cons (StepIsThere P proc) s ss A.1 rest.0, rest.1)
-path_there P proc _ _ _ (Path.on {g = g} {p = s} {ps = ss} {c = c} path) A =
+path_there P proc _ _ _ (Path.on {g = g} {step = s} {ps = ss} {c = c} path) A =
     let rest = path_there P proc g ss c path A.1 in
     (All-cons (StepIsThere P proc) s ss A.0 rest.0, rest.1)
 path_there P proc _ _ _ (on_true {l = l} {e = e} {r = r} {g = g} {k = k} {ps = ss} {c = c} path) A =

@@ -237,10 +237,10 @@ is_path (fork l e r g k) y i = elim (Contains-append_cases (map (after_step (ass
 -- a path, so listed
 is_listed : (g : Graph) (ps : List PathStep) (c : Check) → Path g ps c → Contains (ways g) (way ps c)
 is_listed _ _ _ (at_end {c = c}) = member_first (way [] c) []
-is_listed _ _ _ (arrived {g = g} {p = p} {c = c}) = member_first (way [] c) (map (after_step p) (ways g))
-is_listed _ _ _ (Path.past {g = g} {d = d} {p = p} {ps = ps} {c = c} path) =
+is_listed _ _ _ (arrived {g = g} {step = p} {c = c}) = member_first (way [] c) (map (after_step p) (ways g))
+is_listed _ _ _ (Path.past {g = g} {d = d} {step = p} {ps = ps} {c = c} path) =
     member_later (way [] d) (way (p ∷ ps) c) (map (after_step p) (ways g)) (mapped p (ways g) (way ps c) (is_listed g ps c path))
-is_listed _ _ _ (Path.on {g = g} {p = p} {ps = ps} {c = c} path) = mapped p (ways g) (way ps c) (is_listed g ps c path)
+is_listed _ _ _ (Path.on {g = g} {step = p} {ps = ps} {c = c} path) = mapped p (ways g) (way ps c) (is_listed g ps c path)
 is_listed _ _ _ (on_true {l = l} {e = e} {r = r} {g = g} {k = k} {ps = ps} {c = c} path) =
     Contains-append_left (map (after_step (assume l e r)) (ways g)) (map (after_step (assume l (not e) r)) (ways k)) (way (assume l e r ∷ ps) c) (mapped (assume l e r) (ways g) (way ps c) (is_listed g ps c path))
 is_listed _ _ _ (on_false {l = l} {e = e} {r = r} {g = g} {k = k} {ps = ps} {c = c} path) =

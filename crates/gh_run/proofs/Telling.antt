@@ -50,12 +50,12 @@ no_more (x ∷ xs) = ap (λ z. x ∷ z) (no_more xs)
 -- a line of cells is one line
 
 each_append : (P : ℕ → Type 0) (xs ys : List ℕ) → Each P xs → Each P ys → Each P (xs ++ ys)
-each_append P [] ys p q = q
-each_append P (x ∷ xs) ys p q = (p.0, each_append P xs ys p.1 q)
+each_append P [] ys first second = second
+each_append P (x ∷ xs) ys first second = (first.0, each_append P xs ys first.1 second)
 
 each_weaker : (P Q : ℕ → Type 0) → ((c : ℕ) → P c → Q c) → (xs : List ℕ) → Each P xs → Each Q xs
-each_weaker P Q f [] p = tt
-each_weaker P Q f (x ∷ xs) p = (f x p.0, each_weaker P Q f xs p.1)
+each_weaker P Q f [] first = tt
+each_weaker P Q f (x ∷ xs) first = (f x first.0, each_weaker P Q f xs first.1)
 
 digits_stay : (n : ℕ) → IsValue n → Each IsNotEnd (decimal n)
 digits_stay n h = each_weaker (IsInRange 48 57) IsNotEnd (λ c r e. absurd (omega (arith, r.0, e))) (decimal n) (decimal_digits n h)

@@ -37,8 +37,8 @@ pub all_taken : {X : Type 0} (P : X → Type 0) (xs : List X) (i : ℕ) → leng
 all_taken P xs i le all = subst (All P) (take_all i xs le) all
 
 none_of : (o : Option Atom) (P : Type 0) → is_some o ≡ false → IfNone o P → P
-none_of None P e p = p
-none_of (Some a) P e p = cc
+none_of None P e holds = holds
+none_of (Some a) P e holds = cc
 
 pub clause_more : (trail : List Step) (clauses : List (List Lit)) (i : ℕ) (item lits : List Lit) (o : Option Atom)
     → i < length clauses → All (IsAssigned trail) (take i clauses) → item ≡ get_or clauses i item → lits ≡ item

@@ -15,7 +15,7 @@ module _ {A : Type 0} (P : A → Type 0) where
   all_right (x ∷ xs) ys h = all_right xs ys (All-tail P x (xs ++ ys) h)
 
   pub pair_all : (x y : A) → P x → P y → All P (x ∷ y ∷ [])
-  pair_all x y p q = All-cons P x (y ∷ []) p (All-cons P y [] q (All-nil P))
+  pair_all x y holds other = All-cons P x (y ∷ []) holds (All-cons P y [] other (All-nil P))
 
   pub pair_first : (x y : A) → All P (x ∷ y ∷ []) → P x
   pair_first x y h = All-head P x (y ∷ []) h
@@ -30,15 +30,15 @@ module _ {A : Type 0} (P : A → Type 0) where
   any_later x xs w = (suc w.0, w.1, omega arith, w.3, w.4)
 
   pub any_cases : (x : A) (xs : List A) → Any P (x ∷ xs) → P x ⊎ Any P xs
-  any_cases x xs (zero, y, h, e, p) = inl (subst P (sym e) p)
-  any_cases x xs (suc k, y, h, e, p) = inr (k, y, omega arith, e, p)
+  any_cases x xs (zero, y, h, e, holds) = inl (subst P (sym e) holds)
+  any_cases x xs (suc k, y, h, e, holds) = inr (k, y, omega arith, e, holds)
 
   pub any_none : {X : Type 0} → Any P [] → X
   any_none w = absurd (omega (arith, w.2))
 
   pub any_left : (xs ys : List A) → Any P xs → Any P (xs ++ ys)
   any_left [] ys w = any_none w
-  any_left (x ∷ xs) ys w = elim (any_cases x xs w) as (λ _. Any P (x ∷ xs ++ ys)) [ inl p ↦ any_here x (xs ++ ys) p | inr v ↦ any_later x (xs ++ ys) (any_left xs ys v) ]
+  any_left (x ∷ xs) ys w = elim (any_cases x xs w) as (λ _. Any P (x ∷ xs ++ ys)) [ inl holds ↦ any_here x (xs ++ ys) holds | inr v ↦ any_later x (xs ++ ys) (any_left xs ys v) ]
 
   pub any_right : (xs ys : List A) → Any P ys → Any P (xs ++ ys)
   any_right [] ys w = w
@@ -47,7 +47,7 @@ module _ {A : Type 0} (P : A → Type 0) where
   pub any_append : (xs ys : List A) → Any P (xs ++ ys) → Any P xs ⊎ Any P ys
   any_append [] ys w = inr w
   any_append (x ∷ xs) ys w = elim (any_cases x (xs ++ ys) w) as (λ _. Any P (x ∷ xs) ⊎ Any P ys) [
-    | inl p ↦ inl (any_here x xs p)
+    | inl holds ↦ inl (any_here x xs holds)
     | inr v ↦ elim (any_append xs ys v) as (λ _. Any P (x ∷ xs) ⊎ Any P ys) [ inl u ↦ inl (any_later x xs u) | inr u ↦ inr u ]
   ]
 

@@ -31,8 +31,8 @@ use Rattle.gh_small.specs.declared.descent.Fewest.{Fewest}
 use Rattle.gh_small.proofs.TraceLemmas.{sections_show}
 
 -- a model of the clauses is one of the condition
-of_condition : (P : Program) (q : Procedure) (c : Condition) (p : Problem) (m : Interpretation) → p ≡ problem (symbolic_of P q c) → IsModel p m → IsModelOf P q c m
-of_condition P q c p m same is =
+of_condition : (P : Program) (q : Procedure) (c : Condition) (asked : Problem) (m : Interpretation) → asked ≡ problem (symbolic_of P q c) → IsModel asked m → IsModelOf P q c m
+of_condition P q c asked m same is =
     let here = subst (λ (g : Problem). IsModel g m) same is in
     record { congruence = here.congruence; instances = here.instances; clauses = here.clauses }
 
@@ -50,7 +50,7 @@ shows_least : (P : Program) (q : Procedure) (c : Condition) (cells : ℕ) (o : O
 shows_least P q c cells None typed is of known e = λ proc its x ys against. omega (arith, e)
 shows_least P q c cells (Some s) typed is of known h = sections_show P q c s.lines cells typed is of known (omega (arith, h.0)) h.1.valid
 
-module _ (P : Program) (r : kept.Condition) (p : Problem) (f : Fewest) (t : Trace) (typed : IsTyped P) (ground : IsGroundOf P r p) (known : IsProblem p) (is : IsFewest p f)
+module _ (P : Program) (r : kept.Condition) (asked : Problem) (f : Fewest) (t : Trace) (typed : IsTyped P) (ground : IsGroundOf P r asked) (known : IsProblem asked) (is : IsFewest asked f)
     (drawn : IsTraceOf P r f.structure t) where
   abbrev meaning : Interpretation
   meaning = interpretation_of f.structure
@@ -59,7 +59,7 @@ module _ (P : Program) (r : kept.Condition) (p : Problem) (f : Fewest) (t : Trac
   its = condition_of r
 
   built : (q : Procedure) → IsCondition P its → IsOf P its q → Refutes P its (drawn_over (variable_names q) (built_trace P q its meaning))
-  built q there of = built_is_counterexample P q its meaning typed there of (of_condition P q its p meaning (ground q of) is.model.model)
+  built q there of = built_is_counterexample P q its meaning typed there of (of_condition P q its asked meaning (ground q of) is.model.model)
 
   counted_first : (q : Procedure) → IsCondition P its → IsOf P its q → f.cells ≡ first_cells (drawn_of t)
   counted_first q there of =

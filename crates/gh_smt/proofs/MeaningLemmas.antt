@@ -112,10 +112,10 @@ atom_says m (Def number) = record { true_is = λ h. h; is_true = λ h. h }
 pub signed_says : (positive b : Bool) (P : Type 0) → Says b P → Says (under positive b) (Signed positive P)
 signed_says true b P s = s
 signed_says false true P s = record { true_is = λ h. absurd (false≢true h); is_true = λ h. absurd (h (s.true_is refl)) }
-signed_says false false P s = record { true_is = λ h p. false≢true (s.is_true p); is_true = λ h. refl }
+signed_says false false P s = record { true_is = λ h holds. false≢true (s.is_true holds); is_true = λ h. refl }
 
 pub any_weaker : {X : Type 0} (P Q : X → Type 0) (xs : List X) → ((x : X) → Contains xs x → P x → Q x) → Any P xs → Any Q xs
-any_weaker P Q xs f (k, x, h, e, p) = (k, x, h, e, f x (k, h, e) p)
+any_weaker P Q xs f (k, x, h, e, holds) = (k, x, h, e, f x (k, h, e) holds)
 
 pub structure_clause : (m : SmtModel) (clause : List Lit) → IsAssertionTrue m clause → ground.IsClauseTrue (structure_of m) clause
 structure_clause m clause h =

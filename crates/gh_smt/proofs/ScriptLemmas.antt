@@ -112,7 +112,7 @@ scripts_decide P proc c t is of known =
     }
 
 -- the same of a script and a problem that are those
-pub script_decides : (P : Program) (q : Procedure) (c : Condition) (p s : Problem) → IsTyped P → IsCondition P c → IsOf P c q → p ≡ problem (symbolic_of P q c) → IsProblem p → s ≡ script_of p →
+pub script_decides : (P : Program) (q : Procedure) (c : Condition) (asked s : Problem) → IsTyped P → IsCondition P c → IsOf P c q → asked ≡ problem (symbolic_of P q c) → IsProblem asked → s ≡ script_of asked →
     DecidesCondition P c s
-script_decides P q c p s t is of e i same =
+script_decides P q c asked s t is of e i same =
     subst (DecidesCondition P c) (sym (same ∙ ap script_of e)) (scripts_decide P q c t is of (subst IsProblem e i))

@@ -41,7 +41,7 @@ body_of P q never a = elim (parts_of P q a) [
 ]
   where
     no : (os : List Occ) → Any (λ o. P (mentioned o)) os → ⊥
-    no os (k, o, l, e, p) = never o p
+    no os (k, o, l, e, holds) = never o holds
 
 -- from the parts to the rules
 module _ (p : Program) (n : ℕ) (s : Span) where

@@ -17,18 +17,18 @@ use Rattle.gh_types.proofs.FirstLemmas.{any_here, any_later, first_same}
 -- an error at a place, unless a test says that all is well
 pub first_unless : (P : Type 0) (well : Bool) (number : ℕ) (place : Span) (found : Option Fault) → (well ≡ false → P) → (P → well ≡ false)
     → IsFirstOf (λ n s. (well ≡ false) × (n ≡ number) × (place ≡ s)) found → IsFirstOf (λ n s. (n ≡ number) × (place ≡ s) × P) found
-first_unless P well number place found wrong right h = first_same _ _ found (λ n s (a, b, c). (b, c, wrong a)) (λ n s (b, c, p). (right p, b, c)) h
+first_unless P well number place found wrong right h = first_same _ _ found (λ n s (a, b, c). (b, c, wrong a)) (λ n s (b, c, holds). (right holds, b, c)) h
 
 -- where a test decides P, its opposite decides that P isn't so
 pub first_without : (P : Type 0) (well : Bool) (number : ℕ) (place : Span) (found : Option Fault) → (IsTrue well ↔ P)
     → IsFirstOf (λ n s. (well ≡ false) × (n ≡ number) × (place ≡ s)) found → IsFirstOf (λ n s. (n ≡ number) × (place ≡ s) × (P → ⊥)) found
 first_without P well number place found decides =
-    first_unless (P → ⊥) well number place found (λ a p. let t : well ≡ true = decides.1 p in absurd cc)
+    first_unless (P → ⊥) well number place found (λ a holds. let t : well ≡ true = decides.1 holds in absurd cc)
     (λ none. elim (cases_Bool well) [ inl t ↦ absurd (none (decides.0 t)) | inr f ↦ f ])
 
 pub first_with : (P : Type 0) (bad : Bool) (number : ℕ) (place : Span) (found : Option Fault) → (IsTrue bad ↔ P)
     → IsFirstOf (λ n s. (not bad ≡ false) × (n ≡ number) × (place ≡ s)) found → IsFirstOf (λ n s. (n ≡ number) × (place ≡ s) × P) found
-first_with P bad number place found decides = first_unless P (not bad) number place found (λ a. decides.0 (flipped bad a)) (λ p. let t : bad ≡ true = decides.1 p in rw t refl)
+first_with P bad number place found decides = first_unless P (not bad) number place found (λ a. decides.0 (flipped bad a)) (λ holds. let t : bad ≡ true = decides.1 holds in rw t refl)
   where
     flipped : (b : Bool) → not b ≡ false → b ≡ true
     flipped true e = refl

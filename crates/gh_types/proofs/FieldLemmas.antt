@@ -19,7 +19,7 @@ front_more xs k x h e = take_more xs k x h ∙ ap (λ y. take k xs ++ y ∷ []) 
 any_last : {X : Type 0} (P : X → Type 0) (xs : List X) (x : X) → Any P (xs ++ x ∷ []) → Any P xs ⊎ P x
 any_last P xs x a = elim (any_parts P xs (x ∷ []) a) [
   | inl b ↦ inl b
-  | inr b ↦ elim (any_cases P x [] b) [ inl p ↦ inr p | inr c ↦ absurd (any_none P c) ]
+  | inr b ↦ elim (any_cases P x [] b) [ inl holds ↦ inr holds | inr c ↦ absurd (any_none P c) ]
 ]
 
 -- whether there is a link so far

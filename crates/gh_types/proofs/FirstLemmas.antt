@@ -20,22 +20,22 @@ use Rattle.gh_types.specs.Faults.{IsFirstOf, IsFirstIn, IsEarlier}
 
 -- some member of a list: cases
 pub any_none : {X : Type 0} (P : X → Type 0) → Any P [] → ⊥
-any_none P (k, x, h, e, p) = omega arith
+any_none P (k, x, h, e, holds) = omega arith
 
 pub any_here : {X : Type 0} (P : X → Type 0) (x : X) (xs : List X) → P x → Any P (x ∷ xs)
-any_here P x xs p = (0, x, omega arith, refl, p)
+any_here P x xs holds = (0, x, omega arith, refl, holds)
 
 pub any_later : {X : Type 0} (P : X → Type 0) (x : X) (xs : List X) → Any P xs → Any P (x ∷ xs)
-any_later P x xs (k, y, h, e, p) = (suc k, y, omega arith, e, p)
+any_later P x xs (k, y, h, e, holds) = (suc k, y, omega arith, e, holds)
 
 pub any_cases : {X : Type 0} (P : X → Type 0) (x : X) (xs : List X) → Any P (x ∷ xs) → P x ⊎ Any P xs
-any_cases P x xs (zero, y, h, e, p) = inl (subst P (sym e) p)
-any_cases P x xs (suc k, y, h, e, p) = inr (k, y, omega arith, e, p)
+any_cases P x xs (zero, y, h, e, holds) = inl (subst P (sym e) holds)
+any_cases P x xs (suc k, y, h, e, holds) = inr (k, y, omega arith, e, holds)
 
 pub any_left : {X : Type 0} (P : X → Type 0) (xs ys : List X) → Any P xs → Any P (xs ++ ys)
 any_left P [] ys a = absurd (any_none P a)
 any_left P (x ∷ xs) ys a =
-    elim (any_cases P x xs a) [ inl p ↦ any_here P x (xs ++ ys) p | inr b ↦ any_later P x (xs ++ ys) (any_left P xs ys b) ]
+    elim (any_cases P x xs a) [ inl holds ↦ any_here P x (xs ++ ys) holds | inr b ↦ any_later P x (xs ++ ys) (any_left P xs ys b) ]
 
 pub any_right : {X : Type 0} (P : X → Type 0) (xs ys : List X) → Any P ys → Any P (xs ++ ys)
 any_right P [] ys a = a
@@ -45,18 +45,18 @@ pub any_parts : {X : Type 0} (P : X → Type 0) (xs ys : List X) → Any P (xs +
 any_parts P [] ys a = inr a
 any_parts P (x ∷ xs) ys a =
     elim (any_cases P x (xs ++ ys) a) [
-      | inl p ↦ inl (any_here P x xs p)
+      | inl holds ↦ inl (any_here P x xs holds)
       | inr b ↦ elim (any_parts P xs ys b) [ inl c ↦ inl (any_later P x xs c) | inr c ↦ inr c ]
     ]
 
 pub any_weaker : {X : Type 0} (P Q : X → Type 0) → ((x : X) → P x → Q x) → (xs : List X) → Any P xs → Any Q xs
-any_weaker P Q f xs (k, x, h, e, p) = (k, x, h, e, f x p)
+any_weaker P Q f xs (k, x, h, e, holds) = (k, x, h, e, f x holds)
 
 pub any_map : {X Y : Type 0} (P : Y → Type 0) (f : X → Y) (xs : List X) → Any P (map f xs) → Any (λ x. P (f x)) xs
 any_map P f [] a = absurd (any_none P a)
 any_map P f (x ∷ xs) a =
     elim (any_cases P (f x) (map f xs) a) [
-      | inl p ↦ any_here (λ z. P (f z)) x xs p
+      | inl holds ↦ any_here (λ z. P (f z)) x xs holds
       | inr b ↦ any_later (λ z. P (f z)) x xs (any_map P f xs b)
     ]
 
@@ -64,7 +64,7 @@ pub any_mapped : {X Y : Type 0} (P : Y → Type 0) (f : X → Y) (xs : List X) �
 any_mapped P f [] a = absurd (any_none (λ x. P (f x)) a)
 any_mapped P f (x ∷ xs) a =
     elim (any_cases (λ z. P (f z)) x xs a) [
-      | inl p ↦ any_here P (f x) (map f xs) p
+      | inl holds ↦ any_here P (f x) (map f xs) holds
       | inr b ↦ any_later P (f x) (map f xs) (any_mapped P f xs b)
     ]
 

@@ -25,7 +25,7 @@ with_left P xs ys x h = record {
   within = omega (arith, h.within, length-append xs ys);
   element = get_or_append_left xs ys x h.place h.within ∙ h.element;
   holds = h.holds;
-  earlier = λ j d l p. h.earlier j d l (subst P (get_or_append_left xs ys d j (omega (arith, h.within))) p);
+  earlier = λ j d l holds. h.earlier j d l (subst P (get_or_append_left xs ys d j (omega (arith, h.within))) holds);
 }
 
 with_right : {X : Type 0} (P : X → Type 0) (xs ys : List X) (y : X) → ((j : ℕ) (d : X) → j < length xs → P (get_or xs j d) → ⊥) → IsFirstWith P ys y → IsFirstWith P (xs ++ ys) y
@@ -34,11 +34,11 @@ with_right P xs ys y none h = record {
   within = omega (arith, h.within, length-append xs ys);
   element = get_or-append-add xs ys h.place y ∙ h.element;
   holds = h.holds;
-  earlier = λ j d l p. elim (cases_lt j (length xs)) [
-    | inl a ↦ none j d a (subst P (get_or_append_left xs ys d j a) p)
+  earlier = λ j d l holds. elim (cases_lt j (length xs)) [
+    | inl a ↦ none j d a (subst P (get_or_append_left xs ys d j a) holds)
     | inr b ↦
         let same : j ≡ length xs + (j - length xs) = omega arith in
-        h.earlier (j - length xs) d (omega arith) (subst P (ap (λ k. get_or (xs ++ ys) k d) same ∙ get_or-append-add xs ys (j - length xs) d) p)
+        h.earlier (j - length xs) d (omega arith) (subst P (ap (λ k. get_or (xs ++ ys) k d) same ∙ get_or-append-add xs ys (j - length xs) d) holds)
   ];
 }
 
@@ -105,12 +105,12 @@ map_here f [] k x d h e = absurd (omega arith)
 map_here f (y ∷ xs) zero x d h e = ap f (sym e)
 map_here f (y ∷ xs) (suc k) x d h e = map_here f xs k x d (omega arith) e
 
-pub first_there : (P : Procedure → Type 0) (ps : List whole.Procedure) (k : ℕ) (p : whole.Procedure) → k < length ps → p ≡ get_or ps k p
-    → P (procedure_of p) → ((j : ℕ) (d : Procedure) → j < k → P (get_or (map procedure_of ps) j d) → ⊥) → IsFirstWith P (map procedure_of ps) (procedure_of p)
-first_there P ps k p h e here before = record {
+pub first_there : (P : Procedure → Type 0) (ps : List whole.Procedure) (k : ℕ) (proc : whole.Procedure) → k < length ps → proc ≡ get_or ps k proc
+    → P (procedure_of proc) → ((j : ℕ) (d : Procedure) → j < k → P (get_or (map procedure_of ps) j d) → ⊥) → IsFirstWith P (map procedure_of ps) (procedure_of proc)
+first_there P ps k proc h e here before = record {
   place = k;
   within = rw length-map h;
-  element = map_here procedure_of ps k p (procedure_of p) h e;
+  element = map_here procedure_of ps k proc (procedure_of proc) h e;
   holds = here;
   earlier = before;
 }

@@ -19,8 +19,8 @@ use Rattle.gh_model.specs.Laws.{AssertionsAgree, BuiltAgrees}
 use Rattle.gh_model.proofs.heaps.BuiltHeap.{hop_at_once, models_are_built, has_names}
 
 same_choice : (t : Bool) (P Q P' Q' : Type 0) → P ↔ P' → Q ↔ Q' → MatchBool t P Q ↔ MatchBool t P' Q'
-same_choice true P Q P' Q' p q = p
-same_choice false P Q P' Q' p q = q
+same_choice true P Q P' Q' first second = first
+same_choice false P Q P' Q' first second = second
 
 -- where the content is named, the hop is the content
 hop_is_content : (V : List ℕ) (h : Heap) (x v : ℕ) → Contains V (succ h x) → Hop V h x v ↔ (get h x ≡ Some v)

@@ -70,10 +70,10 @@ record IsParted (V : List ℕ) (m n : HeapStructure) (p q : Formula) (s t : Stor
 
 parted : (V : List ℕ) (m n : HeapStructure) (p q : Formula) (s t : Store) → IsModelOver V m → IsModelOver V n → IsNamed p s V → IsNamed q t V → StepsByCall V m n p q s t → IsParted V m n p q s t
 parted V m n p q s t M N np nq S =
-    let P : AgreeOn V (built V m) m s p = built_agrees V m s p M np in
-    let Q : AgreeOn V (built V n) n t q = built_agrees V n t q N nq in
-    let first = P.part.0 S.before in
-    let last = Q.part.0 S.after in
+    let starts : AgreeOn V (built V m) m s p = built_agrees V m s p M np in
+    let ends : AgreeOn V (built V n) n t q = built_agrees V n t q N nq in
+    let first = starts.part.0 S.before in
+    let last = ends.part.0 S.after in
     record {
       a = first.0;
       b = without (built V m) first.0;
@@ -83,8 +83,8 @@ parted V m n p q s t M N np nq S =
       back = last.1;
       meets = first.2;
       returns = last.2;
-      given = P.footprint first.0 first.1 first.2;
-      got = Q.footprint last.0 last.1 last.2;
+      given = starts.footprint first.0 first.1 first.2;
+      got = ends.footprint last.0 last.1 last.2;
     }
 
 -- a cell of the rest is a hop of m, and kept

@@ -22,8 +22,8 @@ use Rattle.gh_model.proofs.soundness.Interpretation.{value_at, value_of, within_
 use Rattle.gh_model.proofs.terms.Denotation.{listed}
 
 -- a test that agrees with one that decides
-along : (p q : Bool) (P : Type 0) → (p ≡ true) ↔ (q ≡ true) → Decides q P → Decides p P
-along p q P same d = (λ u. d.0 (same.0 u), λ u. same.1 (d.1 u))
+along : (a b : Bool) (P : Type 0) → (a ≡ true) ↔ (b ≡ true) → Decides b P → Decides a P
+along a b P same d = (λ u. d.0 (same.0 u), λ u. same.1 (d.1 u))
 
 -- what maps onto a structure that represents a heap depicts it
 maps_depict : (V : List ℕ) (m : Interpretation) (i : ℕ) (h : Heap) (M : HeapStructure) → IsHomomorphism m i (length V) (value_at V) V M → Represents V h M → IsHeapDepicted V m i h

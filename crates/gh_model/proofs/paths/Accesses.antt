@@ -45,9 +45,9 @@ AllReady o (fork l e r g k) = AllReady None g × AllReady None k
 
 path_ready : (o : Option Name) (g : Graph) (ps : List PathStep) (c : Check) → Path g ps c → AllReady o g → AreReady o ps
 path_ready o g ps c (at_end {c = d}) A = tt
-path_ready o g ps c (arrived {g = h} {p = p} {c = d}) A = tt
-path_ready o g ps c (past {g = h} {d = d} {p = p} {ps = qs} {c = k} rest) A = (A.0, path_ready (accesses p) h qs k rest A.1)
-path_ready o g ps c (on {g = h} {p = p} {ps = qs} {c = k} rest) A = (A.0, path_ready (accesses p) h qs k rest A.1)
+path_ready o g ps c (arrived {g = h} {step = p} {c = d}) A = tt
+path_ready o g ps c (past {g = h} {d = d} {step = p} {ps = qs} {c = k} rest) A = (A.0, path_ready (accesses p) h qs k rest A.1)
+path_ready o g ps c (on {g = h} {step = p} {ps = qs} {c = k} rest) A = (A.0, path_ready (accesses p) h qs k rest A.1)
 path_ready o g ps c (on_true {l = l} {e = e} {r = r} {g = h} {k = h'} {ps = qs} {c = k} rest) A = (tt, path_ready None h qs k rest A.0)
 path_ready o g ps c (on_false {l = l} {e = e} {r = r} {g = h} {k = h'} {ps = qs} {c = k} rest) A = (tt, path_ready None h' qs k rest A.1)
 

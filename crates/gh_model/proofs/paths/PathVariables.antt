@@ -64,9 +64,9 @@ GraphIn q (fork l e r g k) = ExprIn l (variable_names q) × ExprIn r (variable_n
 
 path_in : (q : Procedure) (g : Graph) (ps : List PathStep) (c : Check) → Path g ps c → GraphIn q g → PathIn q ps c
 path_in q g ps c (at_end {c = d}) A = A
-path_in q g ps c (arrived {g = h} {p = p} {c = d}) A = A.0
-path_in q g ps c (past {g = h} {d = d} {p = p} {ps = qs} {c = k} rest) A = (A.1, path_in q h qs k rest A.2)
-path_in q g ps c (on {g = h} {p = p} {ps = qs} {c = k} rest) A = (A.0, path_in q h qs k rest A.1)
+path_in q g ps c (arrived {g = h} {step = p} {c = d}) A = A.0
+path_in q g ps c (past {g = h} {d = d} {step = p} {ps = qs} {c = k} rest) A = (A.1, path_in q h qs k rest A.2)
+path_in q g ps c (on {g = h} {step = p} {ps = qs} {c = k} rest) A = (A.0, path_in q h qs k rest A.1)
 path_in q g ps c (on_true {l = l} {e = e} {r = r} {g = h} {k = h'} {ps = qs} {c = k} rest) A = ((A.0, A.1), path_in q h qs k rest A.2)
 path_in q g ps c (on_false {l = l} {e = e} {r = r} {g = h} {k = h'} {ps = qs} {c = k} rest) A = ((A.0, A.1), path_in q h' qs k rest A.3)
 

@@ -118,10 +118,10 @@ others_there P proc s ss T = All-tail (StepIsThere P proc) s ss T
 
 path_prepared : (P : Program) (proc : Procedure) (R : Name → Type 0) (g : Graph) (ss : List PathStep) (c : Check) → Path g ss c → AreThere P proc ss → CheckIsThere P proc c → AllPrepared P proc R g → ArePrepared P proc R ss c
 path_prepared P proc R g ss c (at_end {c = d}) T C A = A C
-path_prepared P proc R g ss c (arrived {g = h} {p = s} {c = d}) T C A = A.0 C
-path_prepared P proc R g ss c (past {g = h} {d = d} {p = s} {ps = qs} {c = k} rest) T C A =
+path_prepared P proc R g ss c (arrived {g = h} {step = s} {c = d}) T C A = A.0 C
+path_prepared P proc R g ss c (past {g = h} {d = d} {step = s} {ps = qs} {c = k} rest) T C A =
     (A.1 (first_there P proc s qs T), path_prepared P proc (ready_after s R) h qs k rest (others_there P proc s qs T) C A.2)
-path_prepared P proc R g ss c (on {g = h} {p = s} {ps = qs} {c = k} rest) T C A =
+path_prepared P proc R g ss c (on {g = h} {step = s} {ps = qs} {c = k} rest) T C A =
     (A.0 (first_there P proc s qs T), path_prepared P proc (ready_after s R) h qs k rest (others_there P proc s qs T) C A.1)
 path_prepared P proc R g ss c (on_true {l = l} {e = e} {r = r} {g = h} {k = h'} {ps = qs} {c = k} rest) T C A =
     ((A.0, A.1), path_prepared P proc Nowhere h qs k rest (others_there P proc (assume l e r) qs T) C A.2)

@@ -23,8 +23,8 @@ use Rattle.gh_model.proofs.soundness.Interpretation.{value_at, value_of, there_a
 use Rattle.gh_model.proofs.terms.Denotation.{listed}
 
 -- two tests of one fact
-same_test : (p q : Bool) (P : Type 0) → Decides p P → Decides q P → (p ≡ true) ↔ (q ≡ true)
-same_test p q P d e = (λ u. e.1 (d.0 u), λ u. d.1 (e.0 u))
+same_test : (a b : Bool) (P : Type 0) → Decides a P → Decides b P → (a ≡ true) ↔ (b ≡ true)
+same_test a b P d e = (λ u. e.1 (d.0 u), λ u. d.1 (e.0 u))
 
 -- what is depicted maps onto what represents the heap
 depicted_homomorphism : (V : List ℕ) (m : Interpretation) (i : ℕ) (h : Heap) (M : HeapStructure) → IsOwnedHeap V m i h → Represents V h M → IsHomomorphism m i (length V) (value_at V) V M

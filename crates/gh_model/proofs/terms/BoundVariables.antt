@@ -110,7 +110,7 @@ loop_of xs (Some l) s c B =
     let t = moved_on (walked l.invariant s) in
     walked_of xs l.invariant (renewed zs t) (c l refl) (renewed_of xs zs t (filter_of (some_assigns l.body) xs) (walked_of xs l.invariant s (c l refl) B))
 
-step_of : (P : Program) (home : Procedure) (p : PathStep) (s : Terms) → StepIn home p → AreOf (variable_names home) s.bindings → AreOf (variable_names home) (step_walked P home p s).bindings
+step_of : (P : Program) (home : Procedure) (step : PathStep) (s : Terms) → StepIn home step → AreOf (variable_names home) s.bindings → AreOf (variable_names home) (step_walked P home step s).bindings
 step_of P home (accessed o) s c B = used_of (variable_names home) o.name s c B
 step_of P home (assume l e r) s c B = expr_of (variable_names home) r (expr_used l s) c.1 (expr_of (variable_names home) l s c.0 B)
 step_of P home (assigned x e) s c B =
