@@ -1,8 +1,8 @@
 //! Clauses that may be lemmas, in one table.
 
 use crate::early::Least;
-use crate::lemmas::Segment;
 use crate::shape::{Code, Shape};
+use crate::spoken::Segment;
 use crate::structure::Made;
 use crate::table::{at, bit, byte, put, small};
 use std::alloc::{AllocError, Global};

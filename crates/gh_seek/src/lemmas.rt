@@ -7,56 +7,14 @@
 //! false is given up in that version. In a try the contents along the lemma's segment are decided first, then its cases.
 
 use crate::candidates::Candidates;
-use crate::clauses::Origin;
 use crate::search::{End, Searcher};
 use crate::shape::{Code, Kind, Parts};
-use crate::table::{at, bit, byte, cell, put};
+use crate::spoken::{Segment, Spoken};
+use crate::table::byte;
 use std::alloc::AllocError;
 
 // So many conflicts a lemma may take.
 const MOST: u64 = 20000;
-
-/// The two ends of a segment.
-#[derive(Clone, Copy, Debug)]
-pub(crate) struct Segment {
-    pub x: u8,
-    pub z: u8,
-}
-
-// The segments of which ground clauses speak: their atoms over these ends have several terms between.
-fn segments(searcher: &Searcher) -> Result<Vec<Segment>, AllocError> {
-    let (state, terms) = (&searcher.state, searcher.state.shape.terms);
-    let mut between: Vec<u32> = vec![in state.alloc; 0; cell(terms, terms, 0)]?;
-    for number in 0..state.count() {
-        if let Some(Origin::Ground(_)) = state.clauses.origin(number) {
-            note_between(searcher, number, between.as_mut_slice());
-        }
-    }
-    let mut found = Vec::new(state.alloc);
-    for pair in 0..between.len() {
-        let word = at(between.as_slice(), pair, 0);
-        if terms > 0 && word & word.wrapping_sub(1) != 0 {
-            found.push(Segment {
-                x: byte(pair / terms),
-                z: byte(pair % terms),
-            })?;
-        }
-    }
-    Ok(found)
-}
-
-// Notes which terms a clause has between two others.
-fn note_between(searcher: &Searcher, number: u32, between: &mut [u32]) {
-    let shape = &searcher.state.shape;
-    for code in searcher.state.clauses.codes(number) {
-        let parts = shape.parts(code.atom());
-        let [x, y, z] = parts.terms;
-        if parts.kind == Kind::Btwn && x != z {
-            let place = cell(x as usize, shape.terms, z as usize);
-            put(between, place, at(between, place, 0) | bit(y));
-        }
-    }
-}
 
 // Those of some segments that are there in a version.
 fn there_in(
@@ -190,7 +148,7 @@ fn try_version(
 
 /// Tries the lemmas of all versions. Answers a clause that is false at level 0, if one came to be.
 pub(crate) fn try_lemmas(searcher: &mut Searcher) -> Result<Option<u32>, AllocError> {
-    let segments = segments(searcher)?;
+    let segments = Spoken::new(searcher)?.segments(searcher)?;
     for version in 0..searcher.state.shape.versions {
         if let Some(conflict) = try_version(searcher, segments.as_slice(), byte(version))? {
             return Ok(Some(conflict));

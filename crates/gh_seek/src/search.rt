@@ -130,8 +130,8 @@ impl Searcher {
         Ok(())
     }
 
-    // Learns from a false clause. Answers whether it is false at level 0.
-    fn learn(&mut self, conflict: u32) -> Result<bool, AllocError> {
+    /// Learns from a false clause. Answers whether it is false at level 0.
+    pub fn learn(&mut self, conflict: u32) -> Result<bool, AllocError> {
         self.state.conflicts = self.state.conflicts.saturating_add(1);
         let top = self.state.top(conflict);
         self.cut(top)?;
@@ -204,6 +204,33 @@ impl Searcher {
         None
     }
 
+    /// Decides the opposite of a wanted literal, or else the first content of a cell of a version that has none. Answers
+    /// whether there was one.
+    pub fn decide_for(
+        &mut self,
+        wanted: &[Code],
+        hop: Option<(u8, u8)>,
+    ) -> Result<bool, AllocError> {
+        self.stride = 0;
+        if let Some(code) = self.first_open(wanted) {
+            self.state.decide(code.negated())?;
+            return Ok(true);
+        }
+        let Some((version, cell)) = hop else {
+            return Ok(false);
+        };
+        if self.state.yes.hops(version, self.least.of(cell)) != 0 {
+            return Ok(false);
+        }
+        match self.open_hop(version, self.least.of(cell)) {
+            Some(code) => {
+                self.state.decide(code)?;
+                Ok(true)
+            }
+            None => Ok(false),
+        }
+    }
+
     // The first of some literals that has no truth.
     fn first_open(&self, codes: &[Code]) -> Option<Code> {
         for code in codes {
@@ -272,8 +299,8 @@ impl Searcher {
         Ok(End::TooLong)
     }
 
-    // Learns what is wanted, and notes the clause that says it.
-    fn show(&mut self, wanted: &[Code]) -> Result<(), AllocError> {
+    /// Learns what is wanted, and notes the clause that says it.
+    pub fn show(&mut self, wanted: &[Code]) -> Result<(), AllocError> {
         if let Some(shown) = self.lessons.show(&mut self.state, wanted)? {
             self.shown.push(shown)?;
         }

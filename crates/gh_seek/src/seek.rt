@@ -5,6 +5,7 @@ use crate::lemmas::try_lemmas;
 use crate::load::note_keys;
 use crate::search::{End, Searcher};
 use crate::section::section_of;
+use crate::spans::{Spanned, try_spans};
 use gh_base::atom::Lit;
 use gh_base::ground::Ground;
 use gh_log::lines::Section;
@@ -92,8 +93,14 @@ fn search(searcher: &mut Searcher, ground: &Ground, known: &mut Known) -> Result
     if let Some(conflict) = searcher.propagate()? {
         return Ok(End::Refuted(conflict));
     }
-    if let Some(conflict) = try_lemmas(searcher)? {
-        return Ok(End::Refuted(conflict));
+    match try_spans(searcher)? {
+        Spanned::Refuted(conflict) => return Ok(End::Refuted(conflict)),
+        Spanned::Shown => {}
+        Spanned::Open => {
+            if let Some(conflict) = try_lemmas(searcher)? {
+                return Ok(End::Refuted(conflict));
+            }
+        }
     }
     searcher.set_window(0, u8::MAX)?;
     let last = searcher.add_ground(ground, ground.count().saturating_sub(1))?;
