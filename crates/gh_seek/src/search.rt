@@ -204,8 +204,8 @@ impl Searcher {
         None
     }
 
-    /// Decides the opposite of a wanted literal, or else the first content of a cell of a version that has none. Answers
-    /// whether there was one.
+    /// Decides the opposite of a wanted literal, or else the first content of a cell of a version that has none.
+    /// Answers whether there was one.
     pub fn decide_for(
         &mut self,
         wanted: &[Code],

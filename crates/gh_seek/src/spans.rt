@@ -1,9 +1,9 @@
 //! Lemmas on a segment over several versions: what stands on it in the last of them stood on it in the first.
 //!
-//! A path of many calls leaves a list alone until a late one takes it. Which later results stand on the list, and in which
-//! order, isn't known, so there are as many ways along it as there are orders of them. A lemma for each cell, and for each
-//! set of terms that may come after it, takes no more than there are sets: the cell's content is a term of the set, and
-//! after that one the cell itself may come no more, so a smaller set has the lemma that is needed then.
+//! A path of many calls leaves a list alone until a late one takes it. Which later results stand on the list, and in
+//! which order, isn't known, so there are as many ways along it as there are orders of them. A lemma for each cell, and
+//! for each set of terms that may come after it, takes no more than there are sets: the cell's content is a term of the
+//! set, and after that one the cell itself may come no more, so a smaller set has the lemma that is needed then.
 
 use crate::propagator::has;
 use crate::search::Searcher;
@@ -248,7 +248,7 @@ impl Lemmas {
     }
 
     // Whether a term is in a set of those that are free.
-    fn has(&self, set: u32, y: u8) -> bool {
+    fn is_in(&self, set: u32, y: u8) -> bool {
         for index in 0..self.free.len() {
             if set & bit(byte(index)) != 0 && self.free[index] == y {
                 return true;
@@ -264,7 +264,7 @@ impl Lemmas {
         let count = wanted.len();
         searcher.cut(0)?;
         for y in self.asked.as_slice() {
-            if self.has(set, *y) {
+            if self.is_in(set, *y) {
                 continue;
             }
             wanted.truncate(count);
@@ -293,8 +293,8 @@ impl Lemmas {
         Ok(Spanned::Shown)
     }
 
-    // Tries what all of them need: what equals what, and that each cell is kept where no other term comes after it. Where a
-    // cell isn't, that is soon found.
+    // Tries what all of them need: what equals what, and that each cell is kept where no other term comes after it.
+    // Where a cell isn't, that is soon found.
     fn try_alone(&self, searcher: &mut Searcher) -> Result<Spanned, AllocError> {
         self.try_first(searcher, self.span.x)?;
         for from in self.free.as_slice() {
