@@ -28,6 +28,13 @@ pub(crate) enum End {
     TooLong,
 }
 
+/// A cell in a version.
+#[derive(Clone, Copy, Debug)]
+pub(crate) struct CellAt {
+    pub version: u8,
+    pub term: u8,
+}
+
 /// A propagator with what searches over it.
 #[derive(Debug, Drop)]
 pub(crate) struct Searcher {
@@ -204,25 +211,26 @@ impl Searcher {
         None
     }
 
-    /// Decides the opposite of a wanted literal, or else the first content of a cell of a version that has none.
+    /// Decides the opposite of a wanted literal, or else the first content of a cell that has none.
     /// Answers whether there was one.
     pub fn decide_for(
         &mut self,
         wanted: &[Code],
-        hop: Option<(u8, u8)>,
+        cell: Option<CellAt>,
     ) -> Result<bool, AllocError> {
         self.stride = 0;
         if let Some(code) = self.first_open(wanted) {
             self.state.decide(code.negated())?;
             return Ok(true);
         }
-        let Some((version, cell)) = hop else {
+        let Some(CellAt { version, term }) = cell else {
             return Ok(false);
         };
-        if self.state.yes.hops(version, self.least.of(cell)) != 0 {
+        let least = self.least.of(term);
+        if self.state.yes.hops(version, least) != 0 {
             return Ok(false);
         }
-        match self.open_hop(version, self.least.of(cell)) {
+        match self.open_hop(version, least) {
             Some(code) => {
                 self.state.decide(code)?;
                 Ok(true)

@@ -6,7 +6,7 @@
 //! set, and after that one the cell itself may come no more, so a smaller set has the lemma that is needed then.
 
 use crate::propagator::has;
-use crate::search::Searcher;
+use crate::search::{CellAt, Searcher};
 use crate::shape::Code;
 use crate::spoken::{Segment, Spoken};
 use crate::table::{bit, byte};
@@ -148,7 +148,7 @@ struct Lemmas {
 fn attempt(
     searcher: &mut Searcher,
     wanted: &[Code],
-    hop: Option<(u8, u8)>,
+    cell: Option<CellAt>,
 ) -> Result<Spanned, AllocError> {
     let last = searcher.state.conflicts.saturating_add(MOST);
     for _ in 0..u32::MAX {
@@ -168,7 +168,7 @@ fn attempt(
             searcher.show(wanted)?;
             return Ok(Spanned::Shown);
         }
-        if !searcher.decide_for(wanted, hop)? {
+        if !searcher.decide_for(wanted, cell)? {
             break;
         }
     }
@@ -262,6 +262,10 @@ impl Lemmas {
         let span = self.span;
         let mut wanted = span.lemma(searcher, self.free.as_slice(), from, set)?;
         let count = wanted.len();
+        let cell = CellAt {
+            version: span.low,
+            term: from,
+        };
         searcher.cut(0)?;
         for y in self.asked.as_slice() {
             if self.is_in(set, *y) {
@@ -272,7 +276,7 @@ impl Lemmas {
             searcher.cut(shared)?;
             wanted.push(span.stands(searcher, span.high, from, *y, false))?;
             wanted.push(span.stands(searcher, span.low, from, *y, true))?;
-            let came = attempt(searcher, wanted.as_slice(), Some((span.low, from)))?;
+            let came = attempt(searcher, wanted.as_slice(), Some(cell))?;
             if !came.is_shown() {
                 return Ok(came);
             }
