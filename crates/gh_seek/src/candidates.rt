@@ -1,10 +1,10 @@
 //! Clauses that may be lemmas, in one table.
 
 use crate::early::Least;
-use crate::shape::{Code, Shape};
 use crate::spoken::Segment;
 use crate::structure::Made;
-use crate::table::{at, bit, byte, put, small};
+use gh_trail::shape::{Code, Shape};
+use gh_trail::table::{at, bit, byte, put, small};
 use std::alloc::{AllocError, Global};
 
 /// Clauses that are to be tried, the last one first. What is said of a segment has its number.

@@ -1,11 +1,11 @@
 //! Instances of axiom rows that the trail makes unit or false, over least terms of classes. One that would only make an
 //! atom false that stands in no clause is left out: such an atom is false in a structure anyway.
 
-use crate::clauses::Origin;
-use crate::propagator::Propagator;
 use crate::rows::{Plan, Plans, Row};
-use crate::shape::{Code, Kind, Parts};
-use crate::table::{at, bit, byte, put};
+use gh_trail::clauses::Origin;
+use gh_trail::propagator::Propagator;
+use gh_trail::shape::{Code, Kind, Parts};
+use gh_trail::table::{at, bit, byte, put};
 use std::alloc::{AllocError, Global};
 
 /// The least term of each term's class, and the word of the terms that are least.

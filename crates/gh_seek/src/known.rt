@@ -2,14 +2,15 @@
 //! them needs of its first versions serves the others: a clause that was found is added with what shows it, where the
 //! ground clauses that this rests on stand in the next problem too, and nothing is searched for again.
 
-use crate::clauses::{Clauses, Origin};
-use crate::propagator::{Propagator, has};
 use crate::search::Searcher;
 use crate::section::{moved, needed_for};
-use crate::shape::{Code, Kind, Shape, spread};
-use crate::table::{at, put, small};
 use gh_base::ground::Ground;
+use gh_trail::clauses::{Clauses, Origin};
+use gh_trail::propagator::{Propagator, has};
+use gh_trail::shape::{Code, Kind, Shape, spread};
+use gh_trail::table::{at, put, small};
 use std::alloc::{AllocError, Global};
+use std::mem::swap;
 
 /// What earlier searches found. Nothing is promised of it: it serves a search whose answer is checked. Where memory runs
 /// out in such a search, more may be known than before, or less.
@@ -270,6 +271,15 @@ impl Carrier {
         state.keep(added)?;
         Ok(added.wrapping_add(1))
     }
+
+    // Adds all past clauses, in their order.
+    fn add_all(&mut self, state: &mut Propagator, past: &Past) -> Result<(), AllocError> {
+        for number in 0..past.clauses.count() {
+            let added = self.add(state, past, small(number))?;
+            put(self.numbers.as_mut_slice(), number, added);
+        }
+        Ok(())
+    }
 }
 
 impl Known {
@@ -304,20 +314,14 @@ impl Known {
         Ok(conflict)
     }
 
-    /// Keeps what a search found, if it found lemmas.
-    pub(crate) fn keep(&mut self, searcher: Searcher) -> Result<(), AllocError> {
+    /// Keeps what a search found, if it found lemmas. The search has no atoms after that.
+    pub(crate) fn keep(&mut self, searcher: &mut Searcher) -> Result<(), AllocError> {
         if searcher.shown.is_empty() {
             return Ok(());
         }
-        let units = searcher.state.reasons()?;
-        let Searcher { state, shown, .. } = searcher;
-        let Propagator {
-            alloc,
-            shape,
-            clauses,
-            ..
-        } = state;
-        let past = Past::new(alloc, shape, &clauses, shown.as_slice(), units.as_slice())?;
+        let mut past = Past::new(searcher.state.alloc);
+        past.gather(searcher)?;
+        swap(&mut past.shape, &mut searcher.state.shape);
         self.past = Some(past);
         Ok(())
     }
@@ -355,65 +359,109 @@ fn push_copy(
     }
 }
 
-impl Past {
-    // Some clauses of a search, with those that show them.
-    fn new(
-        alloc: Global,
-        shape: Shape,
-        clauses: &Clauses,
-        shown: &[u32],
-        units: &[u32],
-    ) -> Result<Past, AllocError> {
-        let mut roots = Vec::new(alloc);
-        roots.extend_from_slice(shown)?;
-        roots.extend_from_slice(units)?;
-        let needed = needed_for(alloc, clauses, roots.as_slice())?;
-        let mut kept = Clauses::new(alloc);
-        let mut numbers = vec![in alloc; 0; clauses.count()]?;
-        for number in 0..clauses.count() {
-            if at(needed.as_slice(), number, false) {
-                let copy = push_copy(alloc, &mut kept, clauses, numbers.as_slice(), small(number))?;
-                put(numbers.as_mut_slice(), number, copy);
-            }
+// Adds copies of the clauses that are needed, and notes their numbers.
+fn push_copies(
+    alloc: Global,
+    kept: &mut Clauses,
+    clauses: &Clauses,
+    numbers: &mut [u32],
+    needed: &[bool],
+) -> Result<(), AllocError> {
+    for number in 0..needed.len() {
+        if at(needed, number, false) {
+            let copy = push_copy(alloc, kept, clauses, numbers, small(number))?;
+            put(numbers, number, copy);
         }
-        let shown = moved(alloc, numbers.as_slice(), shown)?;
-        Ok(Past {
-            shape,
-            shown: each_once(alloc, kept.count(), shown.as_slice())?,
-            units: moved(alloc, numbers.as_slice(), units)?,
-            clauses: kept,
-        })
+    }
+    Ok(())
+}
+
+// The clauses of a search that show some lemmas and what made literals true at level 0.
+fn roots_of(alloc: Global, shown: &[u32], units: &[u32]) -> Result<Vec<u32>, AllocError> {
+    let mut roots = Vec::with_capacity(alloc, shown.len().wrapping_add(units.len()))?;
+    roots.extend_from_slice(shown)?;
+    roots.extend_from_slice(units)?;
+    Ok(roots)
+}
+
+impl Past {
+    // Nothing, over no atoms.
+    fn new(alloc: Global) -> Past {
+        Past {
+            shape: Shape::empty(alloc),
+            clauses: Clauses::new(alloc),
+            shown: Vec::new(alloc),
+            units: Vec::new(alloc),
+        }
+    }
+
+    // Takes some clauses of a search in, with those that show them.
+    fn gather(&mut self, searcher: &Searcher) -> Result<(), AllocError> {
+        let alloc = searcher.state.alloc;
+        let units = searcher.state.reasons()?;
+        let roots = roots_of(alloc, searcher.shown.as_slice(), units.as_slice())?;
+        let numbers = self.copy_for(&searcher.state, roots.as_slice())?;
+        let shown = moved(alloc, numbers.as_slice(), searcher.shown.as_slice())?;
+        self.shown = each_once(alloc, self.clauses.count(), shown.as_slice())?;
+        self.units = moved(alloc, numbers.as_slice(), units.as_slice())?;
+        Ok(())
+    }
+
+    // Takes copies of some clauses in, with those that show them. Answers by number of a clause that of its copy.
+    fn copy_for(&mut self, state: &Propagator, roots: &[u32]) -> Result<Vec<u32>, AllocError> {
+        let needed = needed_for(state.alloc, &state.clauses, roots)?;
+        let mut numbers = vec![in state.alloc; 0; needed.len()]?;
+        push_copies(
+            state.alloc,
+            &mut self.clauses,
+            &state.clauses,
+            numbers.as_mut_slice(),
+            needed.as_slice(),
+        )?;
+        Ok(numbers)
     }
 
     // Adds to a search what was found, with what shows it.
     fn tell(&self, searcher: &mut Searcher) -> Result<Option<u32>, AllocError> {
-        let alloc = searcher.state.alloc;
-        let mut roots = Vec::new(alloc);
-        roots.extend_from_slice(self.shown.as_slice())?;
-        roots.extend_from_slice(self.units.as_slice())?;
         let mut numbers = self.carried(&mut searcher.state)?;
-        for number in self.shown.as_slice() {
-            let added = at(numbers.as_slice(), *number as usize, 0);
-            if added != 0 {
-                searcher.shown.push(added.wrapping_sub(1))?;
-            }
-        }
-        watch_all(
-            &mut searcher.state,
-            numbers.as_mut_slice(),
-            roots.as_slice(),
-        )
+        push_shown(
+            &mut searcher.shown,
+            numbers.as_slice(),
+            self.shown.as_slice(),
+        )?;
+        self.watch(&mut searcher.state, numbers.as_mut_slice())
     }
 
     // Adds the clauses to a search. Answers for each one more than its number there, or 0.
     fn carried(&self, state: &mut Propagator) -> Result<Vec<u32>, AllocError> {
         let mut carrier = Carrier::new(state.alloc, state, self)?;
-        for number in 0..self.clauses.count() {
-            let added = carrier.add(state, self, small(number))?;
-            put(carrier.numbers.as_mut_slice(), number, added);
-        }
+        carrier.add_all(state, self)?;
         Ok(carrier.numbers)
     }
+
+    // Has the lemmas watched, and what made literals true at level 0, where these became clauses of a search. Answers
+    // one that is false, if there is one.
+    fn watch(
+        &self,
+        state: &mut Propagator,
+        numbers: &mut [u32],
+    ) -> Result<Option<u32>, AllocError> {
+        if let Some(conflict) = watch_all(state, numbers, self.shown.as_slice())? {
+            return Ok(Some(conflict));
+        }
+        watch_all(state, numbers, self.units.as_slice())
+    }
+}
+
+// Adds the numbers that some lemmas have in a search, of those that are there.
+fn push_shown(found: &mut Vec<u32>, numbers: &[u32], shown: &[u32]) -> Result<(), AllocError> {
+    for number in shown {
+        let added = at(numbers, *number as usize, 0);
+        if added != 0 {
+            found.push(added.wrapping_sub(1))?;
+        }
+    }
+    Ok(())
 }
 
 // Has the clauses watched that some past ones became, each once. Answers one that is false, if there is one.

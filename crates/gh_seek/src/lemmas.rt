@@ -8,9 +8,9 @@
 
 use crate::candidates::Candidates;
 use crate::search::{End, Searcher};
-use crate::shape::{Code, Kind, Parts};
 use crate::spoken::{Segment, Spoken};
-use crate::table::byte;
+use gh_trail::shape::{Code, Kind, Parts};
+use gh_trail::table::byte;
 use std::alloc::AllocError;
 
 // So many conflicts a lemma may take.
@@ -104,8 +104,26 @@ fn push_cases(searcher: &mut Searcher, parts: Parts) -> Result<(), AllocError> {
     Ok(())
 }
 
+// Tries a lemma. Where a structure refutes it, leaves out those that this one makes false. Answers a clause that is
+// false at level 0, if one came to be.
+fn try_one(
+    searcher: &mut Searcher,
+    all: &mut Candidates,
+    wanted: &[Code],
+) -> Result<Option<u32>, AllocError> {
+    set_cases(searcher, wanted)?;
+    searcher.cut(0)?;
+    match searcher.run(wanted, MOST)? {
+        End::Refuted(conflict) => return Ok(Some(conflict)),
+        End::Found(made) => all.keep_true(&searcher.state.shape, &searcher.least, &made),
+        End::Shown => {}
+        End::TooLong => {}
+    }
+    Ok(None)
+}
+
 // Tries the lemmas. Answers a clause that is false at level 0, if one came to be.
-fn try_all(searcher: &mut Searcher, mut all: Candidates) -> Result<Option<u32>, AllocError> {
+fn try_all(searcher: &mut Searcher, all: &mut Candidates) -> Result<Option<u32>, AllocError> {
     if all.is_empty() {
         return Ok(None);
     }
@@ -114,19 +132,34 @@ fn try_all(searcher: &mut Searcher, mut all: Candidates) -> Result<Option<u32>, 
         if !all.pop(&mut wanted)? {
             break;
         }
-        set_cases(searcher, wanted.as_slice())?;
-        searcher.cut(0)?;
-        match searcher.run(wanted.as_slice(), MOST)? {
-            End::Refuted(conflict) => return Ok(Some(conflict)),
-            End::Found(made) => all.keep_true(&searcher.state.shape, &searcher.least, &made),
-            End::Shown => {}
-            End::TooLong => {}
+        if let Some(conflict) = try_one(searcher, all, wanted.as_slice())? {
+            return Ok(Some(conflict));
         }
     }
     searcher.cases.clear();
     searcher.chain = None;
     searcher.cut(0)?;
     Ok(None)
+}
+
+// Tries that what is there in the version before is there in a version, too.
+fn try_kept(
+    searcher: &mut Searcher,
+    segments: &[Segment],
+    version: u8,
+) -> Result<Option<u32>, AllocError> {
+    let mut all = kept(searcher, segments, version)?;
+    try_all(searcher, &mut all)
+}
+
+// Tries that the segments of a version are apart, and that nothing is beside them.
+fn try_parted(
+    searcher: &mut Searcher,
+    segments: &[Segment],
+    version: u8,
+) -> Result<Option<u32>, AllocError> {
+    let mut all = parted(searcher, segments, version)?;
+    try_all(searcher, &mut all)
 }
 
 // Tries the lemmas of a version. Answers a clause that is false at level 0, if one came to be.
@@ -137,13 +170,11 @@ fn try_version(
 ) -> Result<Option<u32>, AllocError> {
     searcher.set_window(version.saturating_sub(1), version)?;
     if version > 0 {
-        let all = kept(searcher, segments, version)?;
-        if let Some(conflict) = try_all(searcher, all)? {
+        if let Some(conflict) = try_kept(searcher, segments, version)? {
             return Ok(Some(conflict));
         }
     }
-    let all = parted(searcher, segments, version)?;
-    try_all(searcher, all)
+    try_parted(searcher, segments, version)
 }
 
 /// Tries the lemmas of all versions. Answers a clause that is false at level 0, if one came to be.

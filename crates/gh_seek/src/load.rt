@@ -1,12 +1,12 @@
 //! The ground clauses that a search needs. Those of a definition say it in both directions; one direction is left out
 //! where the others don't ask for it: no clause has the opposite of what it tells.
 
-use crate::clauses::Origin;
-use crate::propagator::Propagator;
-use crate::shape::{Code, Shape};
-use crate::table::{at, put, small};
 use gh_base::clause::Clause;
 use gh_base::ground::Ground;
+use gh_trail::clauses::Origin;
+use gh_trail::propagator::Propagator;
+use gh_trail::shape::{Code, Shape};
+use gh_trail::table::{at, put, small};
 use std::alloc::{AllocError, Global};
 
 // The clauses of a ground problem, one after the other, without repeats in one.
@@ -21,28 +21,31 @@ struct Table {
 }
 
 impl Table {
-    // All clauses. Notes the latest version of which each definition speaks.
-    fn new(alloc: Global, shape: &mut Shape, ground: &Ground) -> Result<Table, AllocError> {
-        let count = ground.count() as usize;
-        let mut table = Table {
+    // No clause, with room for so many.
+    fn new(alloc: Global, shape: &Shape, count: usize) -> Result<Table, AllocError> {
+        Ok(Table {
             codes: Vec::with_capacity(alloc, count.wrapping_mul(3))?,
             ends: Vec::with_capacity(alloc, count)?,
             greatest: Vec::with_capacity(alloc, count)?,
             last: vec![in alloc; 0; shape.count.wrapping_mul(2)]?,
-        };
+        })
+    }
+
+    // Adds all clauses. Notes the latest version of which each definition speaks.
+    fn fill(&mut self, shape: &mut Shape, ground: &Ground) -> Result<(), AllocError> {
         for number in 0..ground.count() {
             let Some(clause) = ground.clause(number) else {
                 break;
             };
-            table.push(shape, clause)?;
-            let defined = table.greatest(number as usize);
+            self.push(shape, clause)?;
+            let defined = self.greatest(number as usize);
             if defined >= shape.defs {
-                let codes = table.clause(number as usize);
+                let codes = self.clause(number as usize);
                 let version = latest(shape, codes, defined);
                 shape.note_version(defined, version);
             }
         }
-        Ok(table)
+        Ok(())
     }
 
     // Adds a clause.
@@ -128,19 +131,50 @@ fn asked_for(alloc: Global, shape: &Shape, table: &Table) -> Result<Vec<bool>, A
     Ok(kept)
 }
 
+// The clauses of a ground problem. Notes the latest version of which each definition speaks.
+fn table_of(alloc: Global, shape: &mut Shape, ground: &Ground) -> Result<Table, AllocError> {
+    let mut table = Table::new(alloc, shape, ground.count() as usize)?;
+    table.fill(shape, ground).and(Ok(table))
+}
+
 /// Takes the clauses that say what the definitions of a ground problem stand for into their keys.
 pub(crate) fn note_keys(
     alloc: Global,
     shape: &mut Shape,
     ground: &Ground,
 ) -> Result<(), AllocError> {
-    let table = Table::new(alloc, shape, ground)?;
+    let table = table_of(alloc, shape, ground)?;
     for number in 0..table.ends.len() {
         let (codes, defined) = (table.clause(number), table.greatest(number));
         if defined >= shape.defs && (codes.len() > 1 || shape.key(defined) == 0) {
             shape.note_key(defined, codes);
         }
     }
+    Ok(())
+}
+
+// Adds the clauses of a table that are kept, up to a number.
+fn add_kept(
+    state: &mut Propagator,
+    table: &Table,
+    kept: &[bool],
+    most: u32,
+) -> Result<(), AllocError> {
+    for number in 0..kept.len().min(most as usize) {
+        if at(kept, number, true) {
+            add_clause(state, table.clause(number), small(number))?;
+        }
+    }
+    Ok(())
+}
+
+// Adds the ground clause of a number.
+fn add_clause(state: &mut Propagator, codes: &[Code], number: u32) -> Result<(), AllocError> {
+    for code in codes {
+        state.order.note(code.atom());
+    }
+    let added = state.clauses.push(codes, Origin::Ground(number))?;
+    let _added = state.watch(added)?;
     Ok(())
 }
 
@@ -151,19 +185,9 @@ pub(crate) fn load(
     ground: &Ground,
     most: u32,
 ) -> Result<(), AllocError> {
-    let table = Table::new(alloc, &mut state.shape, ground)?;
+    let table = table_of(alloc, &mut state.shape, ground)?;
     let kept = asked_for(alloc, &state.shape, &table)?;
     state.reserve(table.ends.len(), table.codes.len())?;
-    for number in 0..table.ends.len().min(most as usize) {
-        if !at(kept.as_slice(), number, true) {
-            continue;
-        }
-        let codes = table.clause(number);
-        for code in codes {
-            state.order.note(code.atom());
-        }
-        let added = state.clauses.push(codes, Origin::Ground(small(number)))?;
-        let _added = state.watch(added)?;
-    }
+    add_kept(state, &table, kept.as_slice(), most)?;
     state.order.fill(&state.shape)
 }

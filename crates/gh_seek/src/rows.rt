@@ -1,11 +1,11 @@
 //! The axiom rows as patterns, and how a row is read when one of its literals becomes false.
 
-use crate::propagator::has;
-use crate::shape::{Code, Kind, Parts, Shape};
-use crate::table::{at, byte};
-use crate::words::{Layout, Reading};
 use gh_base::atom::{Atom, Lit, Term};
 use gh_inst::naming::{InstanceName, instance};
+use gh_trail::propagator::has;
+use gh_trail::shape::{Code, Kind, Parts, Shape};
+use gh_trail::table::{at, byte};
+use gh_trail::words::{Layout, Reading};
 use std::alloc::{AllocError, Global};
 
 /// A literal of a row: the places have numbers of the row's variables.
@@ -206,15 +206,20 @@ fn row_of(alloc: Global, number: u8, arity: u8) -> Result<Option<Row>, AllocErro
     let Some(clause) = instance(alloc, name, 4, 1) else {
         return Ok(None);
     };
-    let mut patterns = Vec::new(alloc);
-    for lit in clause.lits() {
-        patterns.push(Pattern::of(*lit))?;
-    }
     Ok(Some(Row {
         number,
         arity,
-        patterns,
+        patterns: patterns_of(alloc, clause.lits())?,
     }))
+}
+
+// The patterns of literals at terms that are the numbers of a row's variables.
+fn patterns_of(alloc: Global, lits: &[Lit]) -> Result<Vec<Pattern>, AllocError> {
+    let mut patterns = Vec::new(alloc);
+    for lit in lits {
+        patterns.push(Pattern::of(*lit))?;
+    }
+    Ok(patterns)
 }
 
 // The literals of a row with a free variable, but for the one at a place, as they are read over it: negative ones
@@ -299,14 +304,19 @@ impl Plans {
             rows: Vec::new(alloc),
             groups: Vec::new(alloc),
         };
+        plans.fill(alloc, layout).and(Ok(plans))
+    }
+
+    // Adds all rows.
+    fn fill(&mut self, alloc: Global, layout: &Layout) -> Result<(), AllocError> {
         for _ in 0..10 {
-            plans.groups.push(Vec::new(alloc))?;
+            self.groups.push(Vec::new(alloc))?;
         }
         for number in 0..64 {
             let row = row_of(alloc, byte(number / 4), byte(number % 4 + 1))?;
-            plans.add_row(alloc, layout, row)?;
+            self.add_row(alloc, layout, row)?;
         }
-        Ok(plans)
+        Ok(())
     }
 
     // Adds a row, if it is there.

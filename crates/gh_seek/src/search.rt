@@ -1,15 +1,15 @@
 //! The search: decisions, propagation with instances, lessons.
 
-use crate::clauses::Origin;
 use crate::early::{Least, add_early};
-use crate::lesson::Lessons;
 use crate::load::load;
-use crate::propagator::{Added, Propagator, distinct};
 use crate::rows::{Plans, Row};
-use crate::shape::{Code, Parts};
 use crate::structure::{Made, Missing, add_false};
-use crate::table::byte;
 use gh_base::ground::Ground;
+use gh_trail::clauses::Origin;
+use gh_trail::lesson::Lessons;
+use gh_trail::propagator::{Added, Propagator, distinct};
+use gh_trail::shape::{Code, Parts};
+use gh_trail::table::byte;
 use std::alloc::{AllocError, Global};
 
 // A lesson is far if at least so many levels lie between its own and the present one.
@@ -53,6 +53,14 @@ pub(crate) struct Searcher {
     stride: u32,
 }
 
+// The plans, least terms and lessons for a propagator without clauses.
+fn parts_for(alloc: Global, state: &Propagator) -> Result<(Plans, Least, Lessons), AllocError> {
+    let plans = Plans::new(alloc, &state.layout)?;
+    let least = Least::new(alloc, state.shape.terms)?;
+    let lessons = Lessons::new(alloc, state.shape.count)?;
+    Ok((plans, least, lessons))
+}
+
 // The level to cut to after a lesson: its own, or where that is far `stride` and one below the present one.
 fn cut_level(present: u32, level: u32, stride: u32) -> u32 {
     let least = present.saturating_sub(1).saturating_sub(level);
@@ -66,20 +74,29 @@ fn cut_level(present: u32, level: u32, stride: u32) -> u32 {
 impl Searcher {
     /// A search over the clauses of a ground problem up to a number, and the reflexive instances.
     pub fn new(alloc: Global, ground: &Ground, most: u32) -> Result<Searcher, AllocError> {
-        let mut state = Propagator::new(alloc, ground.sizes())?;
-        load(alloc, &mut state, ground, most)?;
-        let plans = Plans::new(alloc, &state.layout)?;
-        add_reflexive(&mut state, &plans)?;
+        let mut searcher = Searcher::over(alloc, Propagator::new(alloc, ground.sizes())?)?;
+        searcher.fill(ground, most).and(Ok(searcher))
+    }
+
+    // A search with a propagator.
+    fn over(alloc: Global, state: Propagator) -> Result<Searcher, AllocError> {
+        let (plans, least, lessons) = parts_for(alloc, &state)?;
         Ok(Searcher {
-            least: Least::new(alloc, state.shape.terms)?,
-            lessons: Lessons::new(alloc, state.shape.count)?,
             state,
+            least,
+            lessons,
             cases: Vec::new(alloc),
             shown: Vec::new(alloc),
             chain: None,
             plans,
             stride: 0,
         })
+    }
+
+    // Adds the clauses of a ground problem up to a number, and the reflexive instances.
+    fn fill(&mut self, ground: &Ground, most: u32) -> Result<(), AllocError> {
+        load(self.state.alloc, &mut self.state, ground, most)?;
+        add_reflexive(&mut self.state, &self.plans)
     }
 
     /// A clause that is false at level 0 from the start, if there is one.

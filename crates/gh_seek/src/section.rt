@@ -1,11 +1,11 @@
 //! The section of a refutation: a line for each clause that the refutation needs.
 
-use crate::clauses::{Clauses, Origin};
 use crate::search::Searcher;
-use crate::shape::Shape;
-use crate::table::{at, put, small};
 use gh_base::atom::Lit;
 use gh_log::lines::{Lines, LogLine, Section};
+use gh_trail::clauses::{Clauses, Origin};
+use gh_trail::shape::Shape;
+use gh_trail::table::{at, put, small};
 use std::alloc::{AllocError, Global};
 
 // Marks the clauses of some numbers.
@@ -66,13 +66,13 @@ pub(crate) fn moved(
 
 // Adds the line of a clause.
 fn push_line(
-    alloc: Global,
     searcher: &Searcher,
     lines: &mut Lines,
     positions: &[u32],
     number: u32,
 ) -> Result<(), AllocError> {
     let (shape, clauses) = (&searcher.state.shape, &searcher.state.clauses);
+    let alloc = searcher.state.alloc;
     match clauses.origin(number) {
         None => Ok(()),
         Some(Origin::Ground(number)) => lines.push(LogLine::Clause { number }),
@@ -92,33 +92,45 @@ fn push_line(
     }
 }
 
-/// The section of a refutation by a clause that is false at level 0.
-pub(crate) fn section_of(
-    alloc: Global,
-    searcher: &mut Searcher,
-    conflict: u32,
-) -> Result<Section, AllocError> {
-    let last = searcher.lessons.refutation(&searcher.state, conflict)?;
-    let count = searcher.state.clauses.count();
-    let needed = needed_for(alloc, &searcher.state.clauses, last.as_slice())?;
-    let mut positions = vec![in alloc; 0; count]?;
-    let mut lines = Lines::new(alloc);
-    for number in 0..count {
-        if at(needed.as_slice(), number, false) {
-            push_line(
-                alloc,
-                searcher,
-                &mut lines,
-                positions.as_slice(),
-                small(number),
-            )?;
-            put(positions.as_mut_slice(), number, small(lines.len()));
+// Adds the lines of the clauses that are needed, and notes their positions.
+fn push_lines(
+    searcher: &Searcher,
+    lines: &mut Lines,
+    positions: &mut [u32],
+    needed: &[bool],
+) -> Result<(), AllocError> {
+    for number in 0..needed.len() {
+        if at(needed, number, false) {
+            push_line(searcher, lines, positions, small(number))?;
+            put(positions, number, small(lines.len()));
         }
     }
-    let hints = moved(alloc, positions.as_slice(), last.as_slice())?;
+    Ok(())
+}
+
+// The lines of a refutation whose last clause, the empty one, has these hints.
+fn lines_of(searcher: &Searcher, last: &[u32]) -> Result<Lines, AllocError> {
+    let alloc = searcher.state.alloc;
+    let needed = needed_for(alloc, &searcher.state.clauses, last)?;
+    let mut positions = vec![in alloc; 0; needed.len()]?;
+    let mut lines = Lines::new(alloc);
+    push_lines(
+        searcher,
+        &mut lines,
+        positions.as_mut_slice(),
+        needed.as_slice(),
+    )?;
+    let hints = moved(alloc, positions.as_slice(), last)?;
     lines.push(LogLine::Hinted {
         clause: &[],
         hints: hints.as_slice(),
     })?;
+    Ok(lines)
+}
+
+/// The section of a refutation by a clause that is false at level 0.
+pub(crate) fn section_of(searcher: &mut Searcher, conflict: u32) -> Result<Section, AllocError> {
+    let last = searcher.lessons.refutation(&searcher.state, conflict)?;
+    let lines = lines_of(searcher, last.as_slice())?;
     Ok(Section { first: 1, lines })
 }

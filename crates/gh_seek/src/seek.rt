@@ -42,42 +42,38 @@ fn for_each_term(searcher: &Searcher, conflicts: u64) -> u64 {
 }
 
 // Searches for a while over all clauses. Answers nothing where it takes longer.
-fn begin(alloc: Global, ground: &Ground, known: &mut Known) -> Result<Option<Found>, AllocError> {
-    let mut searcher = Searcher::new(alloc, ground, ground.count())?;
-    let end = match searcher.false_clause() {
-        Some(number) => End::Refuted(number),
-        None => {
-            let serves = known.serves(ground);
-            let most = for_each_term(&searcher, if serves { BEFORE_TOLD } else { FOR_TERM });
-            searcher.run(&[], most)?
-        }
-    };
-    if let End::TooLong = end {
-        return Ok(None);
+fn begin(
+    searcher: &mut Searcher,
+    ground: &Ground,
+    known: &mut Known,
+) -> Result<Option<Found>, AllocError> {
+    if let Some(number) = searcher.false_clause() {
+        return refuted(searcher, number, known);
     }
-    Ok(Some(outcome(alloc, searcher, end, known)?))
+    let conflicts = if known.serves(ground) {
+        BEFORE_TOLD
+    } else {
+        FOR_TERM
+    };
+    let most = for_each_term(searcher, conflicts);
+    let end = searcher.run(&[], most)?;
+    outcome(searcher, &end, known)
 }
 
-// Searches for a while over all clauses and what is known. Answers nothing where it takes longer, or nothing is known.
-fn recall(alloc: Global, ground: &Ground, known: &mut Known) -> Result<Option<Found>, AllocError> {
-    if !known.serves(ground) {
-        return Ok(None);
+// Searches for a while over all clauses and what is known. Answers nothing where it takes longer.
+fn recall(
+    searcher: &mut Searcher,
+    ground: &Ground,
+    known: &mut Known,
+) -> Result<Option<Found>, AllocError> {
+    note_keys(searcher.state.alloc, &mut searcher.state.shape, ground)?;
+    if let Some(conflict) = known.tell(searcher)? {
+        return refutation(searcher, conflict);
     }
-    let mut searcher = Searcher::new(alloc, ground, ground.count())?;
-    note_keys(alloc, &mut searcher.state.shape, ground)?;
-    let end = match known.tell(&mut searcher)? {
-        Some(conflict) => End::Refuted(conflict),
-        None => {
-            let most = for_each_term(&searcher, AFTER_TOLD);
-            searcher.run(&[], most)?
-        }
-    };
-    match end {
-        End::Refuted(conflict) => {
-            let section = section_of(alloc, &mut searcher, conflict)?;
-            Ok(Some(Found::Refutation(section)))
-        }
-        End::Found(_made) => Ok(Some(Found::Truths(truths(alloc, &searcher)?))),
+    let most = for_each_term(searcher, AFTER_TOLD);
+    match searcher.run(&[], most)? {
+        End::Refuted(conflict) => refutation(searcher, conflict),
+        End::Found(_made) => truths(searcher),
         End::Shown => Ok(None),
         End::TooLong => Ok(None),
     }
@@ -110,32 +106,69 @@ fn search(searcher: &mut Searcher, ground: &Ground, known: &mut Known) -> Result
     searcher.run(&[], u64::MAX)
 }
 
-// The literals of a trail.
-fn truths(alloc: Global, searcher: &Searcher) -> Result<Vec<Lit>, AllocError> {
-    let mut lits = Vec::new(alloc);
+// The literals of a trail, as truths.
+fn truths(searcher: &Searcher) -> Result<Option<Found>, AllocError> {
+    let mut lits = Vec::new(searcher.state.alloc);
     for code in searcher.state.trail.steps.as_slice() {
         lits.push(searcher.state.shape.lit(*code))?;
     }
-    Ok(lits)
+    Ok(Some(Found::Truths(lits)))
 }
 
-// What a search found that ended. Lemmas that it showed are known from now on, if it is a refutation.
-fn outcome(
-    alloc: Global,
-    mut searcher: Searcher,
-    end: End,
+// The refutation by a clause that is false at level 0.
+fn refutation(searcher: &mut Searcher, conflict: u32) -> Result<Option<Found>, AllocError> {
+    let section = section_of(searcher, conflict)?;
+    Ok(Some(Found::Refutation(section)))
+}
+
+// The refutation by a clause that is false at level 0. Lemmas that the search showed are known from now on.
+fn refuted(
+    searcher: &mut Searcher,
+    conflict: u32,
     known: &mut Known,
-) -> Result<Found, AllocError> {
+) -> Result<Option<Found>, AllocError> {
+    let found = refutation(searcher, conflict)?;
+    known.keep(searcher).and(Ok(found))
+}
+
+// What a search found that ended, if it found something.
+fn outcome(
+    searcher: &mut Searcher,
+    end: &End,
+    known: &mut Known,
+) -> Result<Option<Found>, AllocError> {
     match end {
-        End::Refuted(conflict) => {
-            let section = section_of(alloc, &mut searcher, conflict)?;
-            known.keep(searcher)?;
-            Ok(Found::Refutation(section))
-        }
-        End::Found(_made) => Ok(Found::Truths(truths(alloc, &searcher)?)),
-        End::Shown => Ok(Found::Nothing),
-        End::TooLong => Ok(Found::Nothing),
+        End::Refuted(conflict) => refuted(searcher, *conflict, known),
+        End::Found(_made) => truths(searcher),
+        End::Shown => Ok(None),
+        End::TooLong => Ok(None),
     }
+}
+
+// A search of all clauses for a while, without what is known, or with it.
+fn seek_soon(
+    alloc: Global,
+    ground: &Ground,
+    known: &mut Known,
+    is_told: bool,
+) -> Result<Option<Found>, AllocError> {
+    let mut searcher = Searcher::new(alloc, ground, ground.count())?;
+    if is_told {
+        recall(&mut searcher, ground, known)
+    } else {
+        begin(&mut searcher, ground, known)
+    }
+}
+
+// A search of any length.
+fn seek_long(
+    alloc: Global,
+    ground: &Ground,
+    known: &mut Known,
+) -> Result<Option<Found>, AllocError> {
+    let mut searcher = Searcher::new(alloc, ground, ground.count().saturating_sub(1))?;
+    let end = search(&mut searcher, ground, known)?;
+    outcome(&mut searcher, &end, known)
 }
 
 /// Looks for a refutation of the clauses, or for a structure that makes them and all axiom instances true. What is known
@@ -145,13 +178,14 @@ pub fn seek(alloc: Global, ground: &Ground, known: &mut Known) -> Result<Found, 
     if sizes.terms > MOST_TERMS || sizes.count() > MOST_ATOMS {
         return Ok(Found::Nothing);
     }
-    if let Some(found) = begin(alloc, ground, known)? {
+    if let Some(found) = seek_soon(alloc, ground, known, false)? {
         return Ok(found);
     }
-    if let Some(found) = recall(alloc, ground, known)? {
-        return Ok(found);
+    if known.serves(ground) {
+        if let Some(found) = seek_soon(alloc, ground, known, true)? {
+            return Ok(found);
+        }
     }
-    let mut searcher = Searcher::new(alloc, ground, ground.count().saturating_sub(1))?;
-    let end = search(&mut searcher, ground, known)?;
-    outcome(alloc, searcher, end, known)
+    let found = seek_long(alloc, ground, known)?;
+    Ok(found.unwrap_or(Found::Nothing))
 }

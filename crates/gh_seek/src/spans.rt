@@ -5,11 +5,11 @@
 //! for each set of terms that may come after it, takes no more than there are sets: the cell's content is a term of the
 //! set, and after that one the cell itself may come no more, so a smaller set has the lemma that is needed then.
 
-use crate::propagator::has;
 use crate::search::{CellAt, Searcher};
-use crate::shape::Code;
 use crate::spoken::{Segment, Spoken};
-use crate::table::{bit, byte};
+use gh_trail::propagator::has;
+use gh_trail::shape::Code;
+use gh_trail::table::{bit, byte};
 use std::alloc::AllocError;
 
 // So many conflicts a lemma may take.
@@ -344,21 +344,24 @@ fn shared_level(searcher: &Searcher, wanted: &[Code]) -> u32 {
     trail.level()
 }
 
+// Tries the lemmas on a span. On the first one it isn't worth it where few terms may stand.
+fn try_span(searcher: &mut Searcher, span: Span, is_first: bool) -> Result<Spanned, AllocError> {
+    searcher.set_window(span.low, span.high)?;
+    let lemmas = Lemmas::new(searcher, span)?;
+    if is_first && lemmas.free.len() < LEAST_FREE {
+        return Ok(Spanned::Open);
+    }
+    lemmas.try_all(searcher)
+}
+
 /// Tries the lemmas on all spans, in the order of the versions in which they end.
 pub(crate) fn try_spans(searcher: &mut Searcher) -> Result<Spanned, AllocError> {
     let spans = spans(searcher)?;
     if spans.len() < LEAST_SPANS {
         return Ok(Spanned::Open);
     }
-    let mut is_begun = false;
-    for span in spans.as_slice() {
-        searcher.set_window(span.low, span.high)?;
-        let lemmas = Lemmas::new(searcher, *span)?;
-        if !is_begun && lemmas.free.len() < LEAST_FREE {
-            return Ok(Spanned::Open);
-        }
-        is_begun = true;
-        let came = lemmas.try_all(searcher)?;
+    for index in 0..spans.len() {
+        let came = try_span(searcher, spans[index], index == 0)?;
         if !came.is_shown() {
             return Ok(came);
         }

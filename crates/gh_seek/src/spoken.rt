@@ -1,9 +1,9 @@
 //! Which segments ground clauses speak of.
 
-use crate::clauses::Origin;
 use crate::search::Searcher;
-use crate::shape::Kind;
-use crate::table::{at, bit, byte, cell, put};
+use gh_trail::clauses::Origin;
+use gh_trail::shape::Kind;
+use gh_trail::table::{at, bit, byte, cell, put};
 use std::alloc::AllocError;
 
 /// The two ends of a segment.

@@ -1,13 +1,13 @@
 //! The structure of what the trail asserts, in the versions of the window, and the instances that it makes false.
 
-use crate::clauses::Origin;
 use crate::early::Least;
-use crate::propagator::Propagator;
 use crate::rows::{Few, Plan, Plans, Row};
-use crate::shape::{Code, Kind, Parts, Shape};
-use crate::table::byte;
-use crate::words::Words;
 use gh_inst::naming::InstanceName;
+use gh_trail::clauses::Origin;
+use gh_trail::propagator::Propagator;
+use gh_trail::shape::{Code, Kind, Parts, Shape};
+use gh_trail::table::byte;
+use gh_trail::words::Words;
 use std::alloc::AllocError;
 
 // So many false instances are added at once.

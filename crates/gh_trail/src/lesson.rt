@@ -8,7 +8,7 @@ use std::alloc::{AllocError, Global};
 
 /// Marks on atoms, and what a resolution has gathered.
 #[derive(Debug, Drop)]
-pub(crate) struct Lessons {
+pub struct Lessons {
     alloc: Global,
     // By atom: the round in which it was marked.
     stamps: Vec<u32>,

@@ -5,11 +5,11 @@ use crate::table::{at, put};
 use std::alloc::{AllocError, Global};
 
 /// The end of a list.
-pub(crate) const NO_NODE: u32 = u32::MAX;
+pub const NO_NODE: u32 = u32::MAX;
 
 /// What became of a clause that lost a watched literal.
 #[derive(Clone, Copy, Debug, PartialEq, Eq)]
-pub(crate) enum Visit {
+pub enum Visit {
     /// It watches the literal still.
     Kept,
     /// It watches another literal in its place.
@@ -20,7 +20,7 @@ pub(crate) enum Visit {
 
 /// A node of a list: the next one, another literal of the clause, and whether that is the only other one.
 #[derive(Clone, Copy, Debug)]
-pub(crate) struct Node {
+pub struct Node {
     pub next: u32,
     pub other: Code,
     pub is_pair: bool,
@@ -35,7 +35,7 @@ const NOTHING: Node = Node {
 
 /// A clause has two nodes, twice its number and one more: they stand in the lists of its first and second literal.
 #[derive(Debug, Drop)]
-pub(crate) struct Watches {
+pub struct Watches {
     // By literal.
     first: Vec<u32>,
     nodes: Vec<Node>,

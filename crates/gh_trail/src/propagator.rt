@@ -20,14 +20,14 @@ struct Late {
 
 /// A clause that was added, and whether it is false.
 #[derive(Clone, Copy, Debug)]
-pub(crate) struct Added {
+pub struct Added {
     pub number: u32,
     pub is_false: bool,
 }
 
 /// Clauses, the trail, and what is kept of it.
 #[derive(Debug, Drop)]
-pub(crate) struct Propagator {
+pub struct Propagator {
     pub alloc: Global,
     pub shape: Shape,
     pub layout: Layout,
@@ -387,7 +387,7 @@ impl Propagator {
 }
 
 /// The literals without repeats.
-pub(crate) fn distinct(alloc: Global, codes: &[Code]) -> Result<Vec<Code>, AllocError> {
+pub fn distinct(alloc: Global, codes: &[Code]) -> Result<Vec<Code>, AllocError> {
     let mut found: Vec<Code> = Vec::new(alloc);
     for code in codes {
         if !has(found.as_slice(), *code) {
@@ -398,7 +398,7 @@ pub(crate) fn distinct(alloc: Global, codes: &[Code]) -> Result<Vec<Code>, Alloc
 }
 
 /// Whether a literal is among some.
-pub(crate) fn has(codes: &[Code], code: Code) -> bool {
+pub fn has(codes: &[Code], code: Code) -> bool {
     for other in codes {
         if other.0 == code.0 {
             return true;

@@ -7,7 +7,7 @@ use std::alloc::{AllocError, Global};
 
 /// A literal: twice the number of its atom, and one more where it is positive.
 #[derive(Clone, Copy, Debug)]
-pub(crate) struct Code(pub u32);
+pub struct Code(pub u32);
 
 impl Code {
     /// The literal of an atom.
@@ -39,7 +39,7 @@ impl Code {
 
 /// The kinds of atoms, in the order of their numbers.
 #[derive(Clone, Copy, Debug, PartialEq, Eq)]
-pub(crate) enum Kind {
+pub enum Kind {
     Eq,
     Btwn,
     Hop,
@@ -63,7 +63,7 @@ impl Kind {
 /// The parts of an atom. Terms past the kind's arity are 0; the version of a definition is the latest that it speaks
 /// of.
 #[derive(Clone, Copy, Debug)]
-pub(crate) struct Parts {
+pub struct Parts {
     pub kind: Kind,
     pub version: u8,
     pub terms: [u8; 3],
@@ -89,7 +89,7 @@ impl Parts {
 
 /// The atoms over some terms, versions and definitions: equalities first, a row for each term, then those of each kind.
 #[derive(Debug, Drop)]
-pub(crate) struct Shape {
+pub struct Shape {
     pub terms: usize,
     pub versions: usize,
     pub btwns: usize,
@@ -103,7 +103,7 @@ pub(crate) struct Shape {
 }
 
 /// A word whose bits all depend on those of another.
-pub(crate) fn spread(word: u64) -> u64 {
+pub fn spread(word: u64) -> u64 {
     let first = (word ^ (word >> 30)).wrapping_mul(13787848793156543929);
     let second = (first ^ (first >> 27)).wrapping_mul(10723151780598845931);
     second ^ (second >> 31)
@@ -184,6 +184,21 @@ impl Shape {
             parts: all_parts(alloc, sizes, count)?,
             keys: vec![in alloc; 0; sizes.defs as usize]?,
         })
+    }
+
+    /// No atoms.
+    pub fn empty(alloc: Global) -> Shape {
+        Shape {
+            terms: 0,
+            versions: 0,
+            btwns: 0,
+            hops: 0,
+            allocs: 0,
+            defs: 0,
+            count: 0,
+            parts: Vec::new(alloc),
+            keys: Vec::new(alloc),
+        }
     }
 
     /// The parts of the atom of a number.

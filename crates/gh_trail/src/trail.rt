@@ -5,11 +5,11 @@ use crate::table::{at, put, small};
 use std::alloc::{AllocError, Global};
 
 /// The number of no clause.
-pub(crate) const NO_CLAUSE: u32 = u32::MAX;
+pub const NO_CLAUSE: u32 = u32::MAX;
 
 /// The truth of a literal.
 #[derive(Clone, Copy, Debug, PartialEq, Eq)]
-pub(crate) enum Truth {
+pub enum Truth {
     Open,
     /// Open, but given a truth at level 0 alone.
     Idle,
@@ -33,7 +33,7 @@ const NO_FACT: Fact = Fact {
 
 /// The true literals in their order, and by atom what made them so.
 #[derive(Debug, Drop)]
-pub(crate) struct Trail {
+pub struct Trail {
     // By literal.
     truths: Vec<Truth>,
     // By atom.

@@ -8,7 +8,7 @@ use std::alloc::{AllocError, Global};
 
 /// Where a clause comes from.
 #[derive(Clone, Copy, Debug)]
-pub(crate) enum Origin {
+pub enum Origin {
     /// The ground clause of a number.
     Ground(u32),
     Instance(InstanceName),
@@ -26,7 +26,7 @@ struct Extent {
 
 /// Clauses, numbered from 0, and the hints of those that were learnt.
 #[derive(Debug, Drop)]
-pub(crate) struct Clauses {
+pub struct Clauses {
     extents: Vec<Extent>,
     origins: Vec<Origin>,
     codes: Vec<Code>,

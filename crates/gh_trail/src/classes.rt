@@ -16,7 +16,7 @@ struct Stage {
 
 /// Two literals that can't both be true, by the place of the later one; or a negated equality of one class.
 #[derive(Clone, Copy, Debug)]
-pub(crate) struct Clash {
+pub struct Clash {
     at: u32,
     pub first: Code,
     pub second: Option<Code>,
@@ -32,7 +32,7 @@ struct Part {
 
 /// The classes of terms by the literals that were told, and these by their atoms over classes.
 #[derive(Debug, Drop)]
-pub(crate) struct Classes {
+pub struct Classes {
     alloc: Global,
     terms: usize,
     // By term: the name of its class.

@@ -20,7 +20,7 @@ const DEPTH: u32 = 40;
 /// row; a place goes along those of them that have no score. All others of the window that may have no truth are in a
 /// heap.
 #[derive(Debug, Drop)]
-pub(crate) struct Order {
+pub struct Order {
     // By atom: its score, one more than its spot in the heap, whether it stands in a clause, and one more than its
     // place in the row.
     scores: Vec<u64>,

@@ -7,7 +7,7 @@ use std::alloc::{AllocError, Global};
 /// Where the words of each kind of reading begin in the table. Those of betweenness with z left open stand first: bit t
 /// of the word at a version, x and y stands for the atom over x, y and t.
 #[derive(Clone, Copy, Debug)]
-pub(crate) struct Layout {
+pub struct Layout {
     terms: usize,
     by_y: usize,
     by_x: usize,
@@ -111,7 +111,7 @@ impl Layout {
 /// Where a word stands: a start, and what each number of a version and of a row's terms adds. Past the table's end it
 /// is empty.
 #[derive(Clone, Copy, Debug)]
-pub(crate) struct Reading {
+pub struct Reading {
     start: usize,
     of_version: usize,
     first: Step,
@@ -151,7 +151,7 @@ impl Reading {
 
 /// The words of atoms of one truth.
 #[derive(Debug, Drop)]
-pub(crate) struct Words {
+pub struct Words {
     layout: Layout,
     table: Vec<u32>,
 }
