@@ -79,23 +79,212 @@ fn undo(classes: &mut Classes, mark: u32) {
     }
 }
 
-// Whether all could be asserted, and whether a conflict of so many literals then stands, or none with 0.
-fn has_conflict(
-    global: Global,
-    classes: &mut Classes,
-    lits: &[Signed],
-    size: usize,
-) -> Result<bool, AllocError> {
-    let all = assert_each(classes, lits);
-    let found = match classes.conflict(global)? {
-        None => 0,
-        Some(clause) => clause.lits().len(),
-    };
-    Ok(all && found == size)
+// The truth of an atom that is in range; of an equality only whether it is true.
+fn truth_of(classes: &Classes, atom: Atom) -> Option<bool> {
+    if !classes.sizes().has(atom) {
+        return None;
+    }
+    match atom {
+        Atom::Eq { a, b } => { if classes.same(a, b) { Some(true) } else { None } }
+        _ => classes.truth_of(atom),
+    }
+}
+
+// How many literals a conflict has, or 0 where none stands.
+fn conflict_size(global: Global, classes: &Classes) -> Result<usize, AllocError> {
+    match classes.conflict(global)? {
+        None => Ok(0),
+        Some(clause) => Ok(clause.lits().len()),
+    }
+}
+
+// Whether a conflict stands, which is a lemma.
+fn is_contrary(global: Global, classes: &Classes) -> Result<bool, AllocError> {
+    let sizes = classes.sizes();
+    match classes.conflict(global)? {
+        None => Ok(false),
+        Some(clause) => is_lemma(global, &clause, sizes.terms, sizes.versions, sizes.defs),
+    }
+}
+
+// What is done with asserted literals, or what is then to be so.
+#[derive(Clone, Copy)]
+enum Step {
+    // all of these can be asserted
+    Assert(&'static [Signed]),
+    // only so many literals stay asserted
+    Undo(u32),
+    // whether a conflict stands, which is a lemma
+    Contrary(bool),
+    // a conflict of so many literals stands, or none with 0
+    Size(usize),
+    // whether two terms are equal
+    Same(u8, u8, bool),
+    // an atom's truth, but for false equalities
+    Truth(Plain, Option<bool>),
+}
+
+fn is_done(global: Global, classes: &mut Classes, step: Step) -> Result<bool, AllocError> {
+    Ok(match step {
+        Step::Assert(lits) => assert_each(classes, lits),
+        Step::Undo(mark) => {
+            undo(classes, mark);
+            true
+        }
+        Step::Contrary(wanted) => is_contrary(global, classes)? == wanted,
+        Step::Size(size) => conflict_size(global, classes)? == size,
+        Step::Same(a, b, wanted) => classes.same(Term(a), Term(b)) == wanted,
+        Step::Truth(plain, wanted) => truth_of(classes, atom_of(plain)) == wanted,
+    })
+}
+
+// Whether each step is as it says.
+fn are_done(global: Global, classes: &mut Classes, steps: &[Step]) -> Result<bool, AllocError> {
+    for step in steps {
+        if !is_done(global, classes, *step)? {
+            return Ok(false);
+        }
+    }
+    Ok(true)
 }
 
 // Literals, and the size of their conflict.
 type Conflict = (&'static [Signed], usize);
+
+// Literals, and whether they are contrary to what stands.
+type Merge = (&'static [Signed], bool);
+
+// What is tried on asserted literals: what a row asserts is then taken back.
+#[derive(Clone, Copy)]
+enum Rows {
+    Conflicts(&'static [Conflict]),
+    Merges(&'static [Merge]),
+    Steps(&'static [Step]),
+}
+
+fn have_conflicts(
+    global: Global,
+    classes: &mut Classes,
+    rows: &[Conflict],
+) -> Result<bool, AllocError> {
+    let mark = classes.mark();
+    for (lits, size) in rows {
+        let steps = [Step::Assert(lits), Step::Size(*size), Step::Undo(mark)];
+        if !are_done(global, classes, &steps)? {
+            return Ok(false);
+        }
+    }
+    Ok(true)
+}
+
+fn are_merged(global: Global, classes: &mut Classes, rows: &[Merge]) -> Result<bool, AllocError> {
+    let mark = classes.mark();
+    for (lits, expected) in rows {
+        let steps = [
+            Step::Assert(lits),
+            Step::Contrary(*expected),
+            Step::Undo(mark),
+        ];
+        if !are_done(global, classes, &steps)? {
+            return Ok(false);
+        }
+    }
+    Ok(true)
+}
+
+// What stands asserted before the rows of a test.
+#[derive(Clone, Copy)]
+enum Setting {
+    Nothing,
+    // each betweenness: true where the first term is below 3
+    Betweenness,
+    // of twenty terms each even one is allocated and no odd one is, each leads to the next, and those of one parity are
+    // joined
+    ManyTerms,
+}
+
+// The literal of an atom that stands asserted, if one does.
+fn literal_of(setting: Setting, atom: Atom) -> Option<Lit> {
+    let positive = match (setting, atom) {
+        (Setting::Betweenness, Atom::Btwn { x, .. }) => x.0 < 3,
+        (Setting::ManyTerms, Atom::Alloc { x, .. }) => x.0 % 2 == 0,
+        (Setting::ManyTerms, Atom::Hop { x, v, .. }) if x.0 < v.0 && v.0 - x.0 == 1 => true,
+        _ => return None,
+    };
+    Some(Lit { atom, positive })
+}
+
+fn assert_literals(classes: &mut Classes, setting: Setting) -> bool {
+    let sizes = classes.sizes();
+    let mut all = true;
+    for number in 0..sizes.count() {
+        if let Some(lit) = literal_of(setting, sizes.atom(number)) {
+            all = try_assert(classes, lit) && all;
+        }
+    }
+    all
+}
+
+// Joins the terms below 20 of one parity.
+fn join(classes: &mut Classes, parity: u8) -> bool {
+    let mut all = true;
+    for x in 0..18 {
+        if x % 2 == parity {
+            all = try_assert(classes, lit_of((Eq(x, x + 2), true))) && all;
+        }
+    }
+    all
+}
+
+// Asserts what stands before the rows, and says whether it is so many literals.
+fn is_set(classes: &mut Classes, setting: Setting) -> bool {
+    let all = assert_literals(classes, setting);
+    match setting {
+        Setting::Nothing => all,
+        Setting::Betweenness => all && classes.mark() == 250,
+        Setting::ManyTerms => {
+            let even = join(classes, 0);
+            let odd = join(classes, 1);
+            all && even && odd && classes.mark() == 408
+        }
+    }
+}
+
+// No literal stands asserted.
+fn new_classes(global: Global, setting: Setting) -> Result<Classes, AllocError> {
+    match setting {
+        Setting::ManyTerms => Classes::new(global, 20, 10, 0),
+        _ => Classes::new(global, TERMS, 2, 2),
+    }
+}
+
+// Whether each row is as it says.
+fn are_rows(global: Global, classes: &mut Classes, rows: Rows) -> Result<bool, AllocError> {
+    match rows {
+        Rows::Conflicts(rows) => have_conflicts(global, classes, rows),
+        Rows::Merges(rows) => are_merged(global, classes, rows),
+        Rows::Steps(steps) => are_done(global, classes, steps),
+    }
+}
+
+// The same after what stands before them.
+fn are_rows_after(
+    global: Global,
+    classes: &mut Classes,
+    setting: Setting,
+    rows: Rows,
+) -> Result<bool, AllocError> {
+    if !is_set(classes, setting) {
+        return Ok(false);
+    }
+    are_rows(global, classes, rows)
+}
+
+// The same in classes of their own.
+fn hold(global: Global, setting: Setting, rows: Rows) -> Result<bool, AllocError> {
+    let mut classes = new_classes(global, setting)?;
+    are_rows_after(global, &mut classes, setting, rows)
+}
 
 const CONFLICTS: &[Conflict] = &[
     (&[], 0),
@@ -188,108 +377,58 @@ const CONFLICTS: &[Conflict] = &[
     ),
 ];
 
-// Whether each row has its conflict.
-fn have_conflicts(
-    global: Global,
-    classes: &mut Classes,
-    rows: &[Conflict],
-) -> Result<bool, AllocError> {
-    for (lits, size) in rows {
-        if !has_conflict(global, classes, lits, *size)? {
-            return Ok(false);
-        }
-        classes.undo_to(0);
-    }
-    Ok(true)
-}
-
-fn have_conflicts_in_new(global: Global) -> Result<bool, AllocError> {
-    let mut classes = Classes::new(global, TERMS, 2, 2)?;
-    have_conflicts(global, &mut classes, CONFLICTS)
-}
-
 #[test]
 fn conflicts(rt: HostRuntime) -> Result<(), AllocError> {
-    assert!(rt; have_conflicts_in_new(rt.alloc())?);
+    assert!(rt; hold(rt.alloc(), Setting::Nothing, Rows::Conflicts(CONFLICTS))?);
     Ok(())
 }
 
-const EQUALITIES: &[Signed] = &[(Eq(1, 4), true), (Eq(3, 4), true)];
-
-// Whether 1 and 3 are one while two equalities are asserted, with a conflict of four literals, and two again after that.
-fn are_one_meanwhile(global: Global, classes: &mut Classes) -> Result<bool, AllocError> {
-    let mark = classes.mark();
-    let joined = has_conflict(global, classes, EQUALITIES, 4)?;
-    let are_one = classes.same(Term(1), Term(3));
-    undo(classes, mark);
-    Ok(joined && are_one && !classes.same(Term(1), Term(3)))
-}
-
-const BEFORE: &[Signed] = &[(Hop(1, 2), true), (Hop(3, 2), false)];
-
-const AGAIN: &[Signed] = &[(Eq(3, 4), true)];
-
-// Whether equalities that are undone are gone, and one of them can be asserted again. A term out of range is equal to
-// itself alone.
-fn are_undone(global: Global, classes: &mut Classes) -> Result<bool, AllocError> {
-    if !has_conflict(global, classes, BEFORE, 0)? {
-        return Ok(false);
-    }
-    if !are_one_meanwhile(global, classes)? {
-        return Ok(false);
-    }
-    let stands = has_conflict(global, classes, AGAIN, 0)?;
-    Ok(stands && classes.same(Term(7), Term(7)) && !classes.same(Term(7), Term(3)))
-}
-
-fn are_undone_in_new(global: Global) -> Result<bool, AllocError> {
-    let mut classes = Classes::new(global, TERMS, 2, 2)?;
-    are_undone(global, &mut classes)
-}
+// Two equalities make 1 and 3 one, with a conflict of four literals. They are undone, and one is asserted again. A term
+// out of range is equal to itself alone.
+const UNDONE: &[Step] = &[
+    Step::Assert(&[(Hop(1, 2), true), (Hop(3, 2), false)]),
+    Step::Size(0),
+    Step::Assert(&[(Eq(1, 4), true), (Eq(3, 4), true)]),
+    Step::Size(4),
+    Step::Same(1, 3, true),
+    Step::Undo(2),
+    Step::Same(1, 3, false),
+    Step::Assert(&[(Eq(3, 4), true)]),
+    Step::Size(0),
+    Step::Same(7, 7, true),
+    Step::Same(7, 3, false),
+];
 
 #[test]
 fn undone_and_asserted_again(rt: HostRuntime) -> Result<(), AllocError> {
-    assert!(rt; are_undone_in_new(rt.alloc())?);
+    assert!(rt; hold(rt.alloc(), Setting::Nothing, Rows::Steps(UNDONE))?);
     Ok(())
 }
 
-// Asserts what can be asserted of some literals, and says whether a conflict stands then, which is a lemma.
-fn is_contrary(global: Global, classes: &mut Classes, lits: &[Signed]) -> Result<bool, AllocError> {
-    assert_each(classes, lits);
-    let sizes = classes.sizes();
-    match classes.conflict(global)? {
-        None => Ok(false),
-        Some(clause) => is_lemma(global, &clause, sizes.terms, sizes.versions, sizes.defs),
-    }
-}
+const TRUTHS: &[Step] = &[
+    Step::Assert(&[
+        (Hop(1, 0), true),
+        (Hop(2, 0), false),
+        (Eq(1, 3), true),
+        (Alloc(1, 1), false),
+        (Def(0), true),
+    ]),
+    Step::Size(0),
+    Step::Truth(Eq(1, 3), Some(true)),
+    Step::Truth(Eq(2, 2), Some(true)),
+    Step::Truth(Eq(0, 4), None),
+    Step::Truth(Hop(3, 0), Some(true)),
+    Step::Truth(Hop(2, 0), Some(false)),
+    Step::Truth(Alloc(1, 3), Some(false)),
+    Step::Truth(Alloc(0, 3), None),
+    Step::Truth(Def(0), Some(true)),
+    Step::Truth(Def(1), None),
+];
 
-// Literals, and whether they are contrary to what stands.
-type Merge = (&'static [Signed], bool);
-
-// Whether each row is as it says, where what it asserts is taken back.
-fn are_merged(global: Global, classes: &mut Classes, rows: &[Merge]) -> Result<bool, AllocError> {
-    let mark = classes.mark();
-    for (lits, expected) in rows {
-        if is_contrary(global, classes, lits)? != *expected {
-            return Ok(false);
-        }
-        undo(classes, mark);
-    }
-    Ok(true)
-}
-
-// Asserts each betweenness of a version: true where the first term is below 3.
-fn assert_all(classes: &mut Classes, version: u8) -> bool {
-    let mut all = true;
-    for x in 0..TERMS {
-        for y in 0..TERMS {
-            for z in 0..TERMS {
-                let lit = lit_of((Btwn(version, x, y, z), x < 3));
-                all = try_assert(classes, lit) && all;
-            }
-        }
-    }
-    all
+#[test]
+fn truths(rt: HostRuntime) -> Result<(), AllocError> {
+    assert!(rt; hold(rt.alloc(), Setting::Nothing, Rows::Steps(TRUTHS))?);
+    Ok(())
 }
 
 const AMONG_MANY: &[Merge] = &[
@@ -317,15 +456,23 @@ const AMONG_MANY: &[Merge] = &[
     ),
 ];
 
-fn are_merged_among_many(global: Global) -> Result<bool, AllocError> {
-    let mut classes = Classes::new(global, TERMS, 2, 2)?;
-    let all = assert_all(&mut classes, 0) && assert_all(&mut classes, 1);
-    Ok(are_merged(global, &mut classes, AMONG_MANY)? && all)
-}
-
 #[test]
 fn merges_among_many_literals(rt: HostRuntime) -> Result<(), AllocError> {
-    assert!(rt; are_merged_among_many(rt.alloc())?);
+    assert!(rt; hold(rt.alloc(), Setting::Betweenness, Rows::Merges(AMONG_MANY))?);
+    Ok(())
+}
+
+const OF_MANY_TERMS: &[Merge] = &[
+    (&[], false),
+    (&[(Eq(18, 19), true)], true),
+    (&[(Hop(2, 5), false)], true),
+    (&[(Hop(2, 4), false)], false),
+    (&[(Hop(2, 4), true), (Hop(18, 6), false)], true),
+];
+
+#[test]
+fn merges_of_many_terms(rt: HostRuntime) -> Result<(), AllocError> {
+    assert!(rt; hold(rt.alloc(), Setting::ManyTerms, Rows::Merges(OF_MANY_TERMS))?);
     Ok(())
 }
 
@@ -431,147 +578,25 @@ const LEMMAS: &[Lemma] = &[
     ),
 ];
 
-// Whether the literals are a lemma.
-fn are_lemma(global: Global, lits: &[Signed]) -> Result<bool, AllocError> {
+// The clause of literals.
+fn clause_of(global: Global, lits: &[Signed]) -> Result<Clause, AllocError> {
     let mut clause = Clause::new(global);
     for lit in lits {
         clause.push(lit_of(*lit))?;
     }
-    is_lemma(global, &clause, TERMS, 2, 2)
+    Ok(clause)
 }
 
-// The first row that is otherwise.
-fn wrong_lemma(global: Global, rows: &[Lemma]) -> Result<Option<usize>, AllocError> {
-    for (number, (lits, expected)) in rows.iter().enumerate() {
-        if are_lemma(global, lits)? != *expected {
-            return Ok(Some(number));
-        }
-    }
-    Ok(None)
+// Whether the literals are a lemma.
+fn are_lemma(global: Global, lits: &[Signed]) -> Result<bool, AllocError> {
+    let clause = clause_of(global, lits)?;
+    is_lemma(global, &clause, TERMS, 2, 2)
 }
 
 #[test]
 fn lemmas(rt: HostRuntime) -> Result<(), AllocError> {
-    assert_eq!(rt; wrong_lemma(rt.alloc(), LEMMAS)?, None);
-    Ok(())
-}
-
-// The truth of an atom that is in range; of an equality only whether it is true.
-fn truth_of(classes: &Classes, atom: Atom) -> Option<bool> {
-    if !classes.sizes().has(atom) {
-        return None;
+    for (lits, expected) in LEMMAS {
+        assert!(rt; are_lemma(rt.alloc(), lits)? == *expected);
     }
-    match atom {
-        Atom::Eq { a, b } => { if classes.same(a, b) { Some(true) } else { None } }
-        _ => classes.truth_of(atom),
-    }
-}
-
-// What is asserted before the truths of atoms are asked.
-const ASSERTED: &[Signed] = &[
-    (Hop(1, 0), true),
-    (Hop(2, 0), false),
-    (Eq(1, 3), true),
-    (Alloc(1, 1), false),
-    (Def(0), true),
-];
-
-const TRUTHS: &[(Plain, Option<bool>)] = &[
-    (Eq(1, 3), Some(true)),
-    (Eq(2, 2), Some(true)),
-    (Eq(0, 4), None),
-    (Hop(3, 0), Some(true)),
-    (Hop(2, 0), Some(false)),
-    (Alloc(1, 3), Some(false)),
-    (Alloc(0, 3), None),
-    (Def(0), Some(true)),
-    (Def(1), None),
-];
-
-// Whether each atom has its truth.
-fn are_truths(classes: &Classes, rows: &[(Plain, Option<bool>)]) -> bool {
-    for (plain, wanted) in rows {
-        if truth_of(classes, atom_of(*plain)) != *wanted {
-            return false;
-        }
-    }
-    true
-}
-
-// The same where some literals are asserted.
-fn have_truths(global: Global) -> Result<bool, AllocError> {
-    let mut classes = Classes::new(global, TERMS, 2, 2)?;
-    let stands = has_conflict(global, &mut classes, ASSERTED, 0)?;
-    Ok(stands && are_truths(&classes, TRUTHS))
-}
-
-#[test]
-fn truths(rt: HostRuntime) -> Result<(), AllocError> {
-    assert!(rt; have_truths(rt.alloc())?);
-    Ok(())
-}
-
-// Each even term is allocated and no odd one is, and each term leads to the next.
-fn literal_of(atom: Atom) -> Option<Lit> {
-    match atom {
-        Atom::Alloc { x, .. } => Some(Lit {
-            atom,
-            positive: x.0 % 2 == 0,
-        }),
-        Atom::Hop { x, v, .. } if x.0 < v.0 && v.0 - x.0 == 1 => Some(Lit {
-            atom,
-            positive: true,
-        }),
-        _ => None,
-    }
-}
-
-fn assert_literals(classes: &mut Classes) -> bool {
-    let sizes = classes.sizes();
-    let mut all = true;
-    for number in 0..sizes.count() {
-        if let Some(lit) = literal_of(sizes.atom(number)) {
-            all = try_assert(classes, lit) && all;
-        }
-    }
-    all
-}
-
-// Joins the terms below 20 of one parity.
-fn join(classes: &mut Classes, parity: u8) -> bool {
-    let mut all = true;
-    for x in 0..18 {
-        if x % 2 == parity {
-            all = try_assert(classes, lit_of((Eq(x, x + 2), true))) && all;
-        }
-    }
-    all
-}
-
-const OF_MANY_TERMS: &[Merge] = &[
-    (&[], false),
-    (&[(Eq(18, 19), true)], true),
-    (&[(Hop(2, 5), false)], true),
-    (&[(Hop(2, 4), false)], false),
-    (&[(Hop(2, 4), true), (Hop(18, 6), false)], true),
-];
-
-// Asserts the literals and the equalities, and says whether so many stand then.
-fn assert_many(classes: &mut Classes) -> bool {
-    let all = assert_literals(classes);
-    let even = join(classes, 0);
-    let odd = join(classes, 1);
-    all && even && odd && classes.mark() == 408
-}
-
-fn are_merged_of_many_terms(global: Global) -> Result<bool, AllocError> {
-    let mut classes = Classes::new(global, 20, 10, 0)?;
-    let all = assert_many(&mut classes);
-    Ok(are_merged(global, &mut classes, OF_MANY_TERMS)? && all)
-}
-
-#[test]
-fn merges_of_many_terms(rt: HostRuntime) -> Result<(), AllocError> {
-    assert!(rt; are_merged_of_many_terms(rt.alloc())?);
     Ok(())
 }
