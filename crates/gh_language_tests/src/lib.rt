@@ -10,6 +10,8 @@ mod outside_tests;
 #[cfg(test)]
 mod parse_tests;
 #[cfg(test)]
+mod program;
+#[cfg(test)]
 mod question_tests;
 #[cfg(test)]
 mod terms_tests;

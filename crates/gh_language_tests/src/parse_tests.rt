@@ -1,35 +1,27 @@
 // Texts that are programs, and texts that are refused.
+
 use crate::answer::{Answer, refused};
+use crate::program::program;
 use Answer::{Accepted, Byte, Deep, Syntax};
+use gh_ast::Program;
 use gh_ast::print::print;
-use gh_base::text::Text;
-use gh_parse::parse::parse;
+use gh_parse::error::ParseError;
 use std::alloc::{AllocError, Global};
 
 // A text, and how it is answered.
 type Row = (&'static [u8], Answer);
 
-fn answer_to(alloc: Global, text: &[u8]) -> Result<Answer, AllocError> {
-    if text.len() >= 2_000 {
-        return Err(AllocError);
-    }
-    match parse(alloc, text) {
-        Ok(_) => Ok(Accepted),
-        Err(error) => refused(error),
-    }
-}
-
-// The answer to parts that are put one after another on a line.
+// The answer to a part between two others.
 fn answer_within(
     alloc: Global,
     before: &[u8],
     part: &[u8],
     after: &[u8],
 ) -> Result<Answer, AllocError> {
-    let mut text = Vec::from_slice(alloc, before)?;
-    text.extend_from_slice(part)?;
-    text.extend_from_slice(after)?;
-    answer_to(alloc, text.as_slice())
+    match program(alloc, before, part, after) {
+        Ok(_) => Ok(Accepted),
+        Err(error) => refused(error),
+    }
 }
 
 // The first row whose text is answered otherwise between two others.
@@ -333,44 +325,40 @@ const TREES: &[Tree] = &[
     ),
 ];
 
-// The text that is printed for a program, if the text of it is one.
-fn printed(alloc: Global, text: &[u8]) -> Result<Option<Text>, AllocError> {
-    if text.len() >= 2_000 {
-        return Err(AllocError);
-    }
-    match parse(alloc, text) {
-        Ok(program) => Ok(Some(print(alloc, &program)?)),
-        Err(_) => Ok(None),
+const HEAD: &[u8] = b"struct Node{var next:Node;}procedure ";
+
+// Whether a program is printed with these words after the first word of a procedure.
+fn is_printed(alloc: Global, program: &Program, wanted: &[u8]) -> Result<bool, AllocError> {
+    let mut line = Vec::from_slice(alloc, b"struct Node { var next : Node ; } procedure ")?;
+    line.extend_from_slice(wanted)?;
+    line.push(b'\n')?;
+    let text = print(alloc, program)?;
+    Ok(text.bytes() == line.as_slice())
+}
+
+fn is_tree(alloc: Global, tree: &Tree) -> Result<bool, AllocError> {
+    match program(alloc, HEAD, tree.0, b"") {
+        Ok(program) => match tree.1 {
+            Some(wanted) => is_printed(alloc, &program, wanted),
+            None => Ok(false),
+        },
+        Err(ParseError::OutOfMemory) => Err(AllocError),
+        Err(_) => Ok(tree.1.is_none()),
     }
 }
 
-// The same of what comes after the first word of a procedure.
-fn printed_after(alloc: Global, rest: &[u8]) -> Result<Option<Text>, AllocError> {
-    let mut text = Vec::from_slice(alloc, b"struct Node{var next:Node;}procedure ")?;
-    text.extend_from_slice(rest)?;
-    printed(alloc, text.as_slice())
-}
-
-// Whether a printed text is this one after the first word of a procedure.
-fn is_printed(alloc: Global, found: &Text, rest: &[u8]) -> Result<bool, AllocError> {
-    let mut wanted = Vec::from_slice(alloc, b"struct Node { var next : Node ; } procedure ")?;
-    wanted.extend_from_slice(rest)?;
-    wanted.push(b'\n')?;
-    Ok(found.bytes() == wanted.as_slice())
-}
-
-fn is_tree(alloc: Global, tree: Tree) -> Result<bool, AllocError> {
-    match (printed_after(alloc, tree.0)?, tree.1) {
-        (Some(found), Some(wanted)) => is_printed(alloc, &found, wanted),
-        (None, None) => Ok(true),
-        _ => Ok(false),
+// The first tree that is answered otherwise.
+fn wrong_tree(alloc: Global, trees: &[Tree]) -> Result<Option<usize>, AllocError> {
+    for (number, tree) in trees.iter().enumerate() {
+        if !is_tree(alloc, tree)? {
+            return Ok(Some(number));
+        }
     }
+    Ok(None)
 }
 
 #[test]
 fn trees(rt: HostRuntime) -> Result<(), AllocError> {
-    for tree in TREES {
-        assert!(rt; is_tree(rt.alloc(), *tree)?);
-    }
+    assert_eq!(rt; wrong_tree(rt.alloc(), TREES)?, None);
     Ok(())
 }

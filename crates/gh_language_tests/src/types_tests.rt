@@ -1,94 +1,50 @@
 // Small programs, checked whole.
 
-ghost use Rattle.std.specs.Prelude.{IfOk};
-ghost use Rattle.gh_ast.specs.Plain.{procedure_of, program_of, statements_view};
-ghost use Rattle.gh_ast.specs.WellFormed.{AreFormedStatements, IsFormedProcedure, IsWellFormed};
-
-use gh_ast::{Assertion, Block, Body, Field, Occ, Procedure, Program, Stmt};
-use gh_base::name::Name;
-use gh_base::place::Span;
+use crate::program::program;
+use gh_parse::error::ParseError;
 use gh_types::check::{CheckError, check};
-use std::alloc::{AllocError, Global};
+use std::alloc::Global;
 
-fn occ(alloc: Global, text: &[u8], line: u32, col: u32) -> Result<Occ, AllocError> {
-    let Some(name) = Name::from_bytes(alloc, text)? else {
-        return Err(AllocError);
-    };
-    let span = Span { line, col };
-    Ok(Occ { name, span })
+// What a check finds: how many procedures there are, or the number and the place of the broken rule.
+#[derive(Clone, Copy, PartialEq, Eq)]
+enum Found {
+    Typed(usize),
+    Rule(u8, u32, u32),
+    Other,
 }
 
-fn link(alloc: Global) -> Result<Vec<Field>, AllocError> {
-    let name = occ(alloc, b"next", 1, 19)?;
-    let kind = occ(alloc, b"Node", 1, 25)?.name;
-    let mut fields = Vec::new(alloc);
-    fields.push(Field { name, kind })?;
-    Ok(fields)
+fn checked(alloc: Global, text: &[u8]) -> Result<Found, ParseError> {
+    let program = program(alloc, text, b"", b"")?;
+    match check(alloc, program) {
+        Ok(typed) => Ok(Found::Typed(typed.program().procedures.len())),
+        Err(CheckError::TypeError { number, span }) => Ok(Found::Rule(number, span.line, span.col)),
+        Err(_) => Ok(Found::Other),
+    }
 }
 
-// A procedure without parameters and results, which requires and ensures `emp`.
-fn procedure(alloc: Global, statements: Vec<Stmt>) -> Result<Procedure, AllocError>
-    requires { AreFormedStatements (statements_view statements.items) }
-    ensures { IfOk result (λ q. IsFormedProcedure (procedure_of q)) }
-{
-    let name = occ(alloc, b"p", 2, 11)?;
-    let close = Span { line: 4, col: 1 };
-    let block = Block { statements, close };
-    let locals = Vec::new(alloc);
-    let mut gives = Vec::new(alloc);
-    gives.push(Assertion::Emp)?;
-    Ok(Procedure {
-        name,
-        parameters: Vec::new(alloc),
-        results: Vec::new(alloc),
-        needs: Assertion::Emp,
-        gives,
-        body: Some(Body { locals, block }),
-        close,
-    })
-}
+const TEXTS: &[(&[u8], Found)] = &[
+    (
+        b"struct Node { var next: Node; }\nprocedure p() {\n}\n",
+        Found::Typed(1),
+    ),
+    (
+        b"struct Node { var next: Node; }\nprocedure p() {\n  free z;\n}\n",
+        Found::Rule(1, 3, 8),
+    ),
+];
 
-// A program of one procedure.
-fn program(alloc: Global, only: Procedure) -> Result<Program, AllocError>
-    requires { IsFormedProcedure (procedure_of only) }
-    ensures { IfOk result (λ p. IsWellFormed (program_of p)) }
-{
-    let fields = link(alloc)?;
-    let mut procedures = Vec::new(alloc);
-    procedures.push(only)?;
-    let close = Span { line: 1, col: 31 };
-    Ok(Program {
-        fields,
-        close,
-        procedures,
-    })
+// The first text of which something else is found.
+fn wrong_row(alloc: Global, rows: &[(&[u8], Found)]) -> Result<Option<usize>, ParseError> {
+    for (number, (text, wanted)) in rows.iter().enumerate() {
+        if checked(alloc, text)? != *wanted {
+            return Ok(Some(number));
+        }
+    }
+    Ok(None)
 }
 
 #[test]
-fn an_empty_body(rt: HostRuntime) -> Result<(), CheckError> {
-    let alloc = rt.alloc();
-    let own = procedure(alloc, Vec::new(alloc))?;
-    let typed = check(alloc, program(alloc, own)?)?;
-    assert!(rt; typed.program().procedures.len() == 1);
-    Ok(())
-}
-
-#[test]
-fn an_unknown_name(rt: HostRuntime) -> Result<(), AllocError> {
-    let alloc = rt.alloc();
-    let at = occ(alloc, b"z", 3, 8)?;
-    let mut statements = Vec::new(alloc);
-    statements.push(Stmt::Free { at })?;
-    let own = procedure(alloc, statements)?;
-    let refused = check(alloc, program(alloc, own)?);
-    assert!(rt;
-        matches!(
-            &refused,
-            Err(CheckError::TypeError {
-                number: 1,
-                span: Span { line: 3, col: 8 }
-            })
-        )
-    );
+fn checked_programs(rt: HostRuntime) -> Result<(), ParseError> {
+    assert_eq!(rt; wrong_row(rt.alloc(), TEXTS)?, None);
     Ok(())
 }
