@@ -1,7 +1,7 @@
 // Copies of assertions and of lists of names.
 
 ghost use Rattle.std.specs.Prelude.{◌≡◌, ◌++◌, map, IfOk, OnOk};
-ghost use Rattle.gh_ast.specs.Plain.{test_of, formula_of, procedure_of};
+ghost use Rattle.gh_ast.specs.Plain.{compare, test_of, comparison, points_to, segment, formula_of, procedure_of};
 ghost use Rattle.gh_ast.specs.Occurrences.{variables_of};
 
 use gh_ast::{Assertion, Cond, Expr, Occ, Operand, Procedure};
@@ -34,20 +34,35 @@ fn copy_expr(alloc: Global, expr: &Expr) -> Result<Expr, AllocError>
     }
 }
 
+// A copy of a comparison of a test.
+fn copy_compare(alloc: Global, left: &Expr, equal: bool, right: &Expr) -> Result<Cond, AllocError>
+    ensures { IfOk result (λ t. test_of t ≡ compare left.now equal right.now) }
+{
+    Ok(Cond::Compare {
+        left: copy_expr(alloc, left)?,
+        equal,
+        right: copy_expr(alloc, right)?,
+    })
+}
+
 #[cycle(tests)]
 fn copy_test(alloc: Global, test: &Cond) -> Result<Cond, AllocError>
     ensures { IfOk result (λ t. test_of t ≡ test_of test.now) }
 {
     match test {
-        Cond::Compare { left, equal, right } => Ok(Cond::Compare {
-            left: copy_expr(alloc, left)?,
-            equal: *equal,
-            right: copy_expr(alloc, right)?,
-        }),
-        Cond::Not(inner) => Ok(Cond::Not(Box::new(alloc, copy_test(alloc, inner)?)?)),
+        Cond::Compare { left, equal, right } => copy_compare(alloc, left, *equal, right),
+        Cond::Not(inner) => Ok(Cond::Not(boxed_test(alloc, inner)?)),
         Cond::And(members) => Ok(Cond::And(copy_tests(alloc, members.as_slice())?)),
         Cond::Or(members) => Ok(Cond::Or(copy_tests(alloc, members.as_slice())?)),
     }
+}
+
+// A copy of a test in a box.
+#[cycle(tests)]
+fn boxed_test(alloc: Global, test: &Cond) -> Result<Box<Cond>, AllocError>
+    ensures { IfOk result (λ b. test_of b.value ≡ test_of test.now) }
+{
+    Ok(Box::new(alloc, copy_test(alloc, test)?)?)
 }
 
 #[cycle(tests)]
@@ -61,6 +76,42 @@ fn copy_tests(alloc: Global, tests: &[Cond]) -> Result<Vec<Cond>, AllocError>
     Ok(copies)
 }
 
+// A copy of a comparison.
+fn copy_comparison(
+    alloc: Global,
+    left: &Operand,
+    equal: bool,
+    right: &Operand,
+) -> Result<Assertion, AllocError>
+    ensures { IfOk result (λ f. formula_of f ≡ comparison left.now equal right.now) }
+{
+    Ok(Assertion::Pure {
+        left: copy_operand(alloc, left)?,
+        equal,
+        right: copy_operand(alloc, right)?,
+    })
+}
+
+// A copy of a cell with its content.
+fn copy_points_to(alloc: Global, at: &Occ, to: &Operand) -> Result<Assertion, AllocError>
+    ensures { IfOk result (λ f. formula_of f ≡ points_to at.now to.now) }
+{
+    Ok(Assertion::PointsTo {
+        at: copy_occ(alloc, at)?,
+        to: copy_operand(alloc, to)?,
+    })
+}
+
+// A copy of a segment.
+fn copy_segment(alloc: Global, from: &Operand, to: &Operand) -> Result<Assertion, AllocError>
+    ensures { IfOk result (λ f. formula_of f ≡ segment from.now to.now) }
+{
+    Ok(Assertion::Lseg {
+        from: copy_operand(alloc, from)?,
+        to: copy_operand(alloc, to)?,
+    })
+}
+
 /// A copy of an assertion.
 #[cycle(assertion)]
 pub fn copy_assertion(alloc: Global, assertion: &Assertion) -> Result<Assertion, AllocError>
@@ -68,32 +119,30 @@ pub fn copy_assertion(alloc: Global, assertion: &Assertion) -> Result<Assertion,
 {
     match assertion {
         Assertion::Emp => Ok(Assertion::Emp),
-        Assertion::Pure { left, equal, right } => Ok(Assertion::Pure {
-            left: copy_operand(alloc, left)?,
-            equal: *equal,
-            right: copy_operand(alloc, right)?,
-        }),
-        Assertion::PointsTo { at, to } => Ok(Assertion::PointsTo {
-            at: copy_occ(alloc, at)?,
-            to: copy_operand(alloc, to)?,
-        }),
+        Assertion::Pure { left, equal, right } => copy_comparison(alloc, left, *equal, right),
+        Assertion::PointsTo { at, to } => copy_points_to(alloc, at, to),
         Assertion::Acc { at } => Ok(Assertion::Acc {
             at: copy_occ(alloc, at)?,
         }),
-        Assertion::Lseg { from, to } => Ok(Assertion::Lseg {
-            from: copy_operand(alloc, from)?,
-            to: copy_operand(alloc, to)?,
-        }),
+        Assertion::Lseg { from, to } => copy_segment(alloc, from, to),
         Assertion::Star(members) => Ok(Assertion::Star(copy_assertions(
             alloc,
             members.as_slice(),
         )?)),
         Assertion::Cases { test, yes, no } => Ok(Assertion::Cases {
             test: copy_test(alloc, test)?,
-            yes: Box::new(alloc, copy_assertion(alloc, yes)?)?,
-            no: Box::new(alloc, copy_assertion(alloc, no)?)?,
+            yes: boxed_assertion(alloc, yes)?,
+            no: boxed_assertion(alloc, no)?,
         }),
     }
+}
+
+// A copy of an assertion in a box.
+#[cycle(assertion)]
+fn boxed_assertion(alloc: Global, assertion: &Assertion) -> Result<Box<Assertion>, AllocError>
+    ensures { IfOk result (λ b. formula_of b.value ≡ formula_of assertion.now) }
+{
+    Ok(Box::new(alloc, copy_assertion(alloc, assertion)?)?)
 }
 
 /// Copies of some assertions.
