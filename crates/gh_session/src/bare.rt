@@ -1,7 +1,7 @@
 //! Copies in which every place is 1:1.
 
 ghost use Rattle.std.specs.Prelude.{◌≡◌, map, IfOk};
-ghost use Rattle.gh_ast.specs.Plain.{test_of, formula_of};
+ghost use Rattle.gh_ast.specs.Plain.{test_of, compare, formula_of, comparison, points_to, segment};
 ghost use Rattle.gh_ast.specs.Bare.{bare_occ, bare_operand, bare_expr, bare_test, bare_formula};
 ghost use Rattle.gh_ast.specs.Programs.{names};
 
@@ -65,21 +65,36 @@ pub fn names(alloc: Global, occs: &[Occ]) -> Result<Vec<Name>, AllocError>
     Ok(copies)
 }
 
+// A comparison of a test at 1:1.
+fn compare(alloc: Global, left: &Expr, equal: bool, right: &Expr) -> Result<Cond, AllocError>
+    ensures { IfOk result (λ t. test_of t ≡ bare_test (compare left.now equal right.now)) }
+{
+    Ok(Cond::Compare {
+        left: expr(alloc, left)?,
+        equal,
+        right: expr(alloc, right)?,
+    })
+}
+
 /// A test at 1:1.
 #[cycle(any_test)]
 fn test(alloc: Global, test: &Cond) -> Result<Cond, AllocError>
     ensures { IfOk result (λ t. test_of t ≡ bare_test (test_of test.now)) }
 {
     match test {
-        Cond::Compare { left, equal, right } => Ok(Cond::Compare {
-            left: expr(alloc, left)?,
-            equal: *equal,
-            right: expr(alloc, right)?,
-        }),
-        Cond::Not(inner) => Ok(Cond::Not(Box::new(alloc, crate::bare::test(alloc, inner)?)?)),
+        Cond::Compare { left, equal, right } => compare(alloc, left, *equal, right),
+        Cond::Not(inner) => Ok(Cond::Not(boxed_test(alloc, inner)?)),
         Cond::And(members) => Ok(Cond::And(tests(alloc, members.as_slice())?)),
         Cond::Or(members) => Ok(Cond::Or(tests(alloc, members.as_slice())?)),
     }
+}
+
+// A test at 1:1, in a box.
+#[cycle(any_test)]
+fn boxed_test(alloc: Global, whole: &Cond) -> Result<Box<Cond>, AllocError>
+    ensures { IfOk result (λ b. test_of b.value ≡ bare_test (test_of whole.now)) }
+{
+    Ok(Box::new(alloc, test(alloc, whole)?)?)
 }
 
 /// Some tests at 1:1.
@@ -94,6 +109,42 @@ fn tests(alloc: Global, members: &[Cond]) -> Result<Vec<Cond>, AllocError>
     Ok(copies)
 }
 
+// A comparison at 1:1.
+fn comparison(
+    alloc: Global,
+    left: &Operand,
+    equal: bool,
+    right: &Operand,
+) -> Result<Assertion, AllocError>
+    ensures { IfOk result (λ a. formula_of a ≡ bare_formula (comparison left.now equal right.now)) }
+{
+    Ok(Assertion::Pure {
+        left: operand(alloc, left)?,
+        equal,
+        right: operand(alloc, right)?,
+    })
+}
+
+// A cell with its content at 1:1.
+fn points_to(alloc: Global, at: &Occ, to: &Operand) -> Result<Assertion, AllocError>
+    ensures { IfOk result (λ a. formula_of a ≡ bare_formula (points_to at.now to.now)) }
+{
+    Ok(Assertion::PointsTo {
+        at: occ(alloc, at)?,
+        to: operand(alloc, to)?,
+    })
+}
+
+// A segment at 1:1.
+fn segment(alloc: Global, from: &Operand, to: &Operand) -> Result<Assertion, AllocError>
+    ensures { IfOk result (λ a. formula_of a ≡ bare_formula (segment from.now to.now)) }
+{
+    Ok(Assertion::Lseg {
+        from: operand(alloc, from)?,
+        to: operand(alloc, to)?,
+    })
+}
+
 /// An assertion at 1:1.
 #[cycle(assertion)]
 pub fn assertion(alloc: Global, whole: &Assertion) -> Result<Assertion, AllocError>
@@ -101,29 +152,27 @@ pub fn assertion(alloc: Global, whole: &Assertion) -> Result<Assertion, AllocErr
 {
     match whole {
         Assertion::Emp => Ok(Assertion::Emp),
-        Assertion::Pure { left, equal, right } => Ok(Assertion::Pure {
-            left: operand(alloc, left)?,
-            equal: *equal,
-            right: operand(alloc, right)?,
-        }),
-        Assertion::PointsTo { at, to } => Ok(Assertion::PointsTo {
-            at: occ(alloc, at)?,
-            to: operand(alloc, to)?,
-        }),
+        Assertion::Pure { left, equal, right } => comparison(alloc, left, *equal, right),
+        Assertion::PointsTo { at, to } => points_to(alloc, at, to),
         Assertion::Acc { at } => Ok(Assertion::Acc {
             at: occ(alloc, at)?,
         }),
-        Assertion::Lseg { from, to } => Ok(Assertion::Lseg {
-            from: operand(alloc, from)?,
-            to: operand(alloc, to)?,
-        }),
+        Assertion::Lseg { from, to } => segment(alloc, from, to),
         Assertion::Star(members) => Ok(Assertion::Star(assertions(alloc, members.as_slice())?)),
         Assertion::Cases { test, yes, no } => Ok(Assertion::Cases {
             test: crate::bare::test(alloc, test)?,
-            yes: Box::new(alloc, assertion(alloc, yes)?)?,
-            no: Box::new(alloc, assertion(alloc, no)?)?,
+            yes: boxed(alloc, yes)?,
+            no: boxed(alloc, no)?,
         }),
     }
+}
+
+// An assertion at 1:1, in a box.
+#[cycle(assertion)]
+fn boxed(alloc: Global, whole: &Assertion) -> Result<Box<Assertion>, AllocError>
+    ensures { IfOk result (λ b. formula_of b.value ≡ bare_formula (formula_of whole.now)) }
+{
+    Ok(Box::new(alloc, assertion(alloc, whole)?)?)
 }
 
 /// Some assertions at 1:1.

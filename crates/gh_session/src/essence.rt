@@ -4,6 +4,7 @@ ghost use Rattle.std.specs.Prelude.{◌≡◌, ◌++◌, map, filter, IfOk};
 ghost use Rattle.gh_ast.specs.Plain.{procedure_of, program_of, statements_view};
 ghost use Rattle.gh_ast.specs.Bare.{bare_expr};
 ghost use Rattle.gh_ast.specs.Programs.{names, variable_names};
+ghost use Rattle.gh_path.specs.Graphs.{loops_of};
 ghost use Rattle.gh_path.specs.Kept.{check_of, condition_of, IsOne, start_of, step_of};
 ghost use Rattle.gh_path.specs.Terms.{some_assigns};
 ghost use Rattle.gh_path.specs.Walking.{loop_of};
@@ -431,6 +432,20 @@ fn rounds(
     Ok(whole)
 }
 
+// The loops of some numbers, of a procedure with these variables.
+fn rounds_in(
+    alloc: Global,
+    procedure: &Procedure,
+    variables: &[Name],
+    numbers: &[u16],
+) -> Result<Vec<Round>, AllocError>
+    ensures { IfOk result (λ v.
+        AreRoundsAt variables.now (loops_of (procedure_of procedure.now)) numbers.now v.items) }
+{
+    let found = loops_of(alloc, procedure)?;
+    rounds(alloc, variables, found.as_slice(), numbers)
+}
+
 // Adds the names of some occurrences.
 fn add_names(alloc: Global, found: &mut Vec<Name>, occs: &[Occ]) -> Result<(), AllocError>
     ensures { IfOk result (λ _. found.new.items ≡ found.old.items ++ names occs.now) }
@@ -453,6 +468,35 @@ fn variables_of(alloc: Global, procedure: &Procedure) -> Result<Vec<Name>, Alloc
     Ok(found)
 }
 
+// The essence of a condition of a procedure, from the numbers of the procedures and of the loops that it names.
+fn essence_by(
+    alloc: Global,
+    program: &Program,
+    procedure: &Procedure,
+    condition: &Condition,
+    procedures: &[u16],
+    loops: &[u16],
+) -> Result<Essence, AllocError>
+    requires procedures { procedures.now ≡ plain.procedures_of (condition_of condition.now) }
+    requires loops { loops.now ≡ plain.rounds_of (condition_of condition.now) }
+    ensures { IfOk result (IsEssenceIn (program_of program.now) (procedure_of procedure.now) condition.now) }
+{
+    let variables = variables_of(alloc, procedure)?;
+    let contracts = contracts(alloc, program.procedures.as_slice(), procedures)?;
+    let rounds = rounds_in(alloc, procedure, variables.as_slice(), loops)?;
+    let steps = steps_in(alloc, procedures, loops, condition.steps.as_slice())?;
+    let check = check_in(alloc, procedures, loops, &condition.check)?;
+    let start = start_in(loops, condition.start);
+    Ok(Essence {
+        variables,
+        contracts,
+        loops: rounds,
+        start,
+        steps,
+        check,
+    })
+}
+
 // The essence of a condition of a procedure.
 fn essence_in(
     alloc: Global,
@@ -464,23 +508,9 @@ fn essence_in(
 {
     let numbers = procedures_of(alloc, condition)?;
     let places = rounds_of(alloc, condition)?;
-    let variables = variables_of(alloc, procedure)?;
-    let found = loops_of(alloc, procedure)?;
     let ps = numbers.as_slice();
     let ls = places.as_slice();
-    let contracts = contracts(alloc, program.procedures.as_slice(), ps)?;
-    let loops = rounds(alloc, variables.as_slice(), found.as_slice(), ls)?;
-    let steps = steps_in(alloc, ps, ls, condition.steps.as_slice())?;
-    let check = check_in(alloc, ps, ls, &condition.check)?;
-    let start = start_in(ls, condition.start);
-    Ok(Essence {
-        variables,
-        contracts,
-        loops,
-        start,
-        steps,
-        check,
-    })
+    essence_by(alloc, program, procedure, condition, ps, ls)
 }
 
 /// The essence of a condition of a typed program.

@@ -1,17 +1,8 @@
-use Rattle.std.proofs.Common.{◌∙◌, ap, map}
-use Rattle.gh_ast.specs.Plain.{procedure_of, program_of}
-use Rattle.gh_path.specs.Kept.{condition_of, step_of}
-use Rattle.gh_path.specs.Walking.{loop_of}
-use Rattle.gh_session.specs.Essences as plain
-use Rattle.gh_session.proofs.Assembling.{assembled}
+use Rattle.std.proofs.Common.{◌∙◌}
 use Rattle.gh_session.proofs.essence.essence_in.Goals as goal
 
-pub returns : goal.returns
-returns c =
-    let ps = c.as_slice-ps.result.now in
-    let ls = c.as_slice-ls.result.now in
-    assembled (program_of c.args.program.now) (procedure_of c.args.procedure.now) (condition_of c.args.condition.now)
-    (record { variables = c.in_ok-variables.variables; contracts = c.in_ok-contracts.contracts; loops = c.in_ok-loops.loops; start = c.start_in-start.result; steps = c.in_ok-steps.steps; check = c.in_ok-check.check }) ps ls (map procedure_of c.as_slice.result.now) c.as_slice-2.result.now (map loop_of c.as_slice-3.result.now)
-    (c.as_slice-ps.ensures.value ∙ c.in_ok-numbers.ensures) (c.as_slice-ls.ensures.value ∙ c.in_ok-places.ensures) (ap (map procedure_of) c.as_slice.ensures.value) (c.as_slice-2.ensures.value ∙ c.in_ok-variables.ensures)
-    (ap (map loop_of) c.as_slice-3.ensures.value ∙ c.in_ok-found.ensures) c.in_ok-variables.ensures c.in_ok-contracts.ensures c.in_ok-loops.ensures c.start_in-start.ensures
-    (c.in_ok-steps.ensures ∙ ap (λ ss. map (plain.step_in ps ls) (map step_of ss)) c.as_slice-4.ensures.value) c.in_ok-check.ensures
+pub essence_by-requires : goal.essence_by-requires
+essence_by-requires c = record {
+  procedures = c.as_slice-ps.ensures.value ∙ c.in_ok-numbers.ensures;
+  loops = c.as_slice-ls.ensures.value ∙ c.in_ok-places.ensures;
+}
