@@ -5,7 +5,7 @@
 use crate::search::Searcher;
 use crate::section::{moved, needed_for};
 use gh_base::ground::Ground;
-use gh_trail::clauses::{Clauses, Origin};
+use gh_trail::clauses::{Clauses, Hint, Origin};
 use gh_trail::propagator::{Propagator, has};
 use gh_trail::shape::{Code, Kind, Shape, spread};
 use gh_trail::table::{at, put, small};
@@ -179,9 +179,8 @@ struct Carrier {
     definitions: Vec<u32>,
     // By number of a past clause: one more than its number in the new search, or 0.
     numbers: Vec<u32>,
-    // The literals and the hints of a clause, over the new numbers.
+    // The literals of a clause, over the new numbers.
     codes: Vec<Code>,
-    hints: Vec<u32>,
 }
 
 impl Carrier {
@@ -192,7 +191,6 @@ impl Carrier {
             definitions: definitions(alloc, &past.shape, &state.shape)?,
             numbers: vec![in alloc; 0; past.clauses.count()]?,
             codes: Vec::new(alloc),
-            hints: Vec::new(alloc),
         })
     }
 
@@ -234,17 +232,14 @@ impl Carrier {
         Ok(true)
     }
 
-    // Finds the new numbers of hints. Answers whether there are all.
-    fn find_hints(&mut self, hints: &[u32]) -> Result<bool, AllocError> {
-        self.hints.clear();
+    // Whether the past clauses of some hints became clauses of the new search.
+    fn has_all(&self, hints: &[Hint]) -> bool {
         for hint in hints {
-            let number = at(self.numbers.as_slice(), *hint as usize, 0);
-            if number == 0 {
-                return Ok(false);
+            if at(self.numbers.as_slice(), hint.clause() as usize, 0) == 0 {
+                return false;
             }
-            self.hints.push(number.wrapping_sub(1))?;
         }
-        Ok(true)
+        true
     }
 
     // Adds a past clause, if what shows it is there. Answers one more than its number, or 0.
@@ -259,12 +254,10 @@ impl Carrier {
                 return Ok(find_ground(&self.grounds, &state.clauses, codes));
             }
             Some(Origin::Learnt { from, to }) => {
-                if !self.find_hints(past.clauses.hints(from, to))? {
+                if !self.has_all(past.clauses.hints(from, to)) {
                     return Ok(0);
                 }
-                state
-                    .clauses
-                    .learn(self.codes.as_slice(), self.hints.as_slice())?
+                state.clauses.push(codes, Origin::Carried { from, to })?
             }
             Some(origin) => state.clauses.push(codes, origin)?,
         };
@@ -301,12 +294,15 @@ impl Known {
         }
     }
 
-    /// Adds to a search at level 0 what is known, which is forgotten where none of its lemmas can be added. Answers a
-    /// clause that is false then, if there is one.
-    pub(crate) fn tell(&mut self, searcher: &mut Searcher) -> Result<Option<u32>, AllocError> {
-        let conflict = match &self.past {
-            Some(past) if self.is_over(searcher.state.shape.terms) => past.tell(searcher)?,
-            _ => return Ok(None),
+    /// Lends what is known to a search at level 0. It is forgotten where none of its lemmas can be added. Answers a clause
+    /// that is false then, if there is one.
+    pub(crate) fn lend(&mut self, searcher: &mut Searcher) -> Result<Option<u32>, AllocError> {
+        if !self.is_over(searcher.state.shape.terms) {
+            return Ok(None);
+        }
+        let conflict = match &mut self.past {
+            Some(past) => past.tell(searcher)?,
+            None => None,
         };
         if searcher.shown.is_empty() {
             self.past = None;
@@ -314,14 +310,34 @@ impl Known {
         Ok(conflict)
     }
 
-    /// Keeps what a search found, if it found lemmas. The search has no atoms after that.
+    /// Takes back what was lent to a search, which needs it no more.
+    pub(crate) fn take_back(&mut self, searcher: &mut Searcher) {
+        if let Some(past) = &mut self.past {
+            searcher.state.clauses.give_hints(&mut past.clauses);
+        }
+    }
+
+    /// Hands what is known over to a search at level 0, and forgets it: where the search ends, `keep` has it. Answers a
+    /// clause that is false then, if there is one.
+    pub(crate) fn hand_over(&mut self, searcher: &mut Searcher) -> Result<Option<u32>, AllocError> {
+        let is_lent = self.is_over(searcher.state.shape.terms);
+        let conflict = self.lend(searcher)?;
+        if is_lent {
+            self.past = None;
+        }
+        Ok(conflict)
+    }
+
+    /// Keeps what a search has that ended, if it found lemmas, or they were handed over to it. The search has no clauses
+    /// and no atoms after that.
     pub(crate) fn keep(&mut self, searcher: &mut Searcher) -> Result<(), AllocError> {
         if searcher.shown.is_empty() {
             return Ok(());
         }
-        let mut past = Past::new(searcher.state.alloc);
-        past.gather(searcher)?;
-        swap(&mut past.shape, &mut searcher.state.shape);
+        let alloc = searcher.state.alloc;
+        let mut past = Past::new(alloc);
+        past.take(searcher)?;
+        past.trim(alloc)?;
         self.past = Some(past);
         Ok(())
     }
@@ -338,42 +354,6 @@ fn each_once(alloc: Global, count: usize, numbers: &[u32]) -> Result<Vec<u32>, A
         }
     }
     Ok(found)
-}
-
-// Adds a copy of a clause. Its hints have new numbers.
-fn push_copy(
-    alloc: Global,
-    kept: &mut Clauses,
-    clauses: &Clauses,
-    numbers: &[u32],
-    number: u32,
-) -> Result<u32, AllocError> {
-    let codes = clauses.codes(number);
-    match clauses.origin(number) {
-        None => Ok(0),
-        Some(Origin::Learnt { from, to }) => {
-            let hints = moved(alloc, numbers, clauses.hints(from, to))?;
-            kept.learn(codes, hints.as_slice())
-        }
-        Some(origin) => kept.push(codes, origin),
-    }
-}
-
-// Adds copies of the clauses that are needed, and notes their numbers.
-fn push_copies(
-    alloc: Global,
-    kept: &mut Clauses,
-    clauses: &Clauses,
-    numbers: &mut [u32],
-    needed: &[bool],
-) -> Result<(), AllocError> {
-    for number in 0..needed.len() {
-        if at(needed, number, false) {
-            let copy = push_copy(alloc, kept, clauses, numbers, small(number))?;
-            put(numbers, number, copy);
-        }
-    }
-    Ok(())
 }
 
 // The clauses of a search that show some lemmas and what made literals true at level 0.
@@ -395,41 +375,40 @@ impl Past {
         }
     }
 
-    // Takes some clauses of a search in, with those that show them.
-    fn gather(&mut self, searcher: &Searcher) -> Result<(), AllocError> {
-        let alloc = searcher.state.alloc;
-        let units = searcher.state.reasons()?;
-        let roots = roots_of(alloc, searcher.shown.as_slice(), units.as_slice())?;
-        let numbers = self.copy_for(&searcher.state, roots.as_slice())?;
-        let shown = moved(alloc, numbers.as_slice(), searcher.shown.as_slice())?;
-        self.shown = each_once(alloc, self.clauses.count(), shown.as_slice())?;
-        self.units = moved(alloc, numbers.as_slice(), units.as_slice())?;
+    // Takes all clauses of a search, which has none after that.
+    fn take(&mut self, searcher: &mut Searcher) -> Result<(), AllocError> {
+        self.units = searcher.state.reasons()?;
+        swap(&mut self.shown, &mut searcher.shown);
+        swap(&mut self.clauses, &mut searcher.state.clauses);
+        swap(&mut self.shape, &mut searcher.state.shape);
         Ok(())
     }
 
-    // Takes copies of some clauses in, with those that show them. Answers by number of a clause that of its copy.
-    fn copy_for(&mut self, state: &Propagator, roots: &[u32]) -> Result<Vec<u32>, AllocError> {
-        let needed = needed_for(state.alloc, &state.clauses, roots)?;
-        let mut numbers = vec![in state.alloc; 0; needed.len()]?;
-        push_copies(
-            state.alloc,
-            &mut self.clauses,
-            &state.clauses,
-            numbers.as_mut_slice(),
-            needed.as_slice(),
-        )?;
-        Ok(numbers)
+    // Drops the clauses that neither the lemmas need nor what made literals true at level 0.
+    fn trim(&mut self, alloc: Global) -> Result<(), AllocError> {
+        let roots = roots_of(alloc, self.shown.as_slice(), self.units.as_slice())?;
+        let needed = needed_for(alloc, &self.clauses, roots.as_slice())?;
+        let numbers = self.clauses.retain(alloc, needed.as_slice())?;
+        let shown = moved(alloc, numbers.as_slice(), self.shown.as_slice())?;
+        self.shown = each_once(alloc, self.clauses.count(), shown.as_slice())?;
+        self.units = moved(alloc, numbers.as_slice(), self.units.as_slice())?;
+        Ok(())
     }
 
-    // Adds to a search what was found, with what shows it.
-    fn tell(&self, searcher: &mut Searcher) -> Result<Option<u32>, AllocError> {
-        let mut numbers = self.carried(&mut searcher.state)?;
+    // Adds to a search what was found, with what shows it, and lends it the hints.
+    fn tell(&mut self, searcher: &mut Searcher) -> Result<Option<u32>, AllocError> {
+        let numbers = self.carried(&mut searcher.state)?;
         push_shown(
             &mut searcher.shown,
             numbers.as_slice(),
             self.shown.as_slice(),
         )?;
-        self.watch(&mut searcher.state, numbers.as_mut_slice())
+        let conflict = self.watch(&mut searcher.state, numbers.as_slice())?;
+        searcher
+            .state
+            .clauses
+            .take_hints(&mut self.clauses, numbers);
+        Ok(conflict)
     }
 
     // Adds the clauses to a search. Answers for each one more than its number there, or 0.
@@ -441,15 +420,10 @@ impl Past {
 
     // Has the lemmas watched, and what made literals true at level 0, where these became clauses of a search. Answers
     // one that is false, if there is one.
-    fn watch(
-        &self,
-        state: &mut Propagator,
-        numbers: &mut [u32],
-    ) -> Result<Option<u32>, AllocError> {
-        if let Some(conflict) = watch_all(state, numbers, self.shown.as_slice())? {
-            return Ok(Some(conflict));
-        }
-        watch_all(state, numbers, self.units.as_slice())
+    fn watch(&self, state: &mut Propagator, numbers: &[u32]) -> Result<Option<u32>, AllocError> {
+        let roots = roots_of(state.alloc, self.shown.as_slice(), self.units.as_slice())?;
+        let roots = each_once(state.alloc, self.clauses.count(), roots.as_slice())?;
+        watch_all(state, numbers, roots.as_slice())
     }
 }
 
@@ -464,15 +438,14 @@ fn push_shown(found: &mut Vec<u32>, numbers: &[u32], shown: &[u32]) -> Result<()
     Ok(())
 }
 
-// Has the clauses watched that some past ones became, each once. Answers one that is false, if there is one.
+// Has the clauses watched that some past ones became. Answers one that is false, if there is one.
 fn watch_all(
     state: &mut Propagator,
-    numbers: &mut [u32],
+    numbers: &[u32],
     roots: &[u32],
 ) -> Result<Option<u32>, AllocError> {
     for root in roots {
         let added = at(numbers, *root as usize, 0);
-        put(numbers, *root as usize, 0);
         if added != 0 && !state.clauses.is_ground(added.wrapping_sub(1)) {
             let watched = state.watch_kept(added.wrapping_sub(1))?;
             if watched.is_false {

@@ -15,25 +15,29 @@ fn mark_all(needed: &mut [bool], numbers: &[u32]) {
     }
 }
 
-/// The clauses that some hints need, with the hints of those that were learnt.
+/// Which clauses some need, by number: these, and those that show the learnt ones among them.
 pub(crate) fn needed_for(
     alloc: Global,
     clauses: &Clauses,
-    hints: &[u32],
+    roots: &[u32],
 ) -> Result<Vec<bool>, AllocError> {
-    let count = clauses.count();
-    let mut needed = vec![in alloc; false; count]?;
-    mark_all(needed.as_mut_slice(), hints);
-    for back in 0..count {
-        let number = small(count - 1 - back);
-        if !at(needed.as_slice(), number as usize, false) {
-            continue;
-        }
-        if let Some(Origin::Learnt { from, to }) = clauses.origin(number) {
-            mark_all(needed.as_mut_slice(), clauses.hints(from, to));
+    let mut needed = vec![in alloc; false; clauses.count()]?;
+    mark_all(needed.as_mut_slice(), roots);
+    mark_hints(alloc, clauses, needed.as_mut_slice())?;
+    Ok(needed)
+}
+
+// Marks the clauses that show marked ones, from the last one back.
+fn mark_hints(alloc: Global, clauses: &Clauses, needed: &mut [bool]) -> Result<(), AllocError> {
+    let mut hints = Vec::new(alloc);
+    for back in 0..needed.len() {
+        let number = needed.len() - 1 - back;
+        if needed[number] {
+            clauses.find_hints(small(number), &mut hints)?;
+            mark_all(needed, hints.as_slice());
         }
     }
-    Ok(needed)
+    Ok(())
 }
 
 // The literals of a clause.
@@ -64,6 +68,25 @@ pub(crate) fn moved(
     Ok(moved)
 }
 
+// Adds the line of a clause that hints show.
+fn push_hinted(
+    searcher: &Searcher,
+    lines: &mut Lines,
+    positions: &[u32],
+    number: u32,
+) -> Result<(), AllocError> {
+    let (shape, clauses) = (&searcher.state.shape, &searcher.state.clauses);
+    let alloc = searcher.state.alloc;
+    let lits = lits_of(alloc, shape, clauses, number)?;
+    let mut found = Vec::new(alloc);
+    clauses.find_hints(number, &mut found)?;
+    let hints = moved(alloc, positions, found.as_slice())?;
+    lines.push(LogLine::Hinted {
+        clause: lits.as_slice(),
+        hints: hints.as_slice(),
+    })
+}
+
 // Adds the line of a clause.
 fn push_line(
     searcher: &Searcher,
@@ -72,23 +95,15 @@ fn push_line(
     number: u32,
 ) -> Result<(), AllocError> {
     let (shape, clauses) = (&searcher.state.shape, &searcher.state.clauses);
-    let alloc = searcher.state.alloc;
     match clauses.origin(number) {
         None => Ok(()),
         Some(Origin::Ground(number)) => lines.push(LogLine::Clause { number }),
         Some(Origin::Instance(name)) => lines.push(LogLine::Axiom(name)),
         Some(Origin::Lemma) => {
-            let lits = lits_of(alloc, shape, clauses, number)?;
+            let lits = lits_of(searcher.state.alloc, shape, clauses, number)?;
             lines.push(LogLine::Lemma(lits.as_slice()))
         }
-        Some(Origin::Learnt { from, to }) => {
-            let lits = lits_of(alloc, shape, clauses, number)?;
-            let hints = moved(alloc, positions, clauses.hints(from, to))?;
-            lines.push(LogLine::Hinted {
-                clause: lits.as_slice(),
-                hints: hints.as_slice(),
-            })
-        }
+        Some(_shown) => push_hinted(searcher, lines, positions, number),
     }
 }
 

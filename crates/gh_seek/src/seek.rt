@@ -67,7 +67,7 @@ fn recall(
     known: &mut Known,
 ) -> Result<Option<Found>, AllocError> {
     note_keys(searcher.state.alloc, &mut searcher.state.shape, ground)?;
-    if let Some(conflict) = known.tell(searcher)? {
+    if let Some(conflict) = known.lend(searcher)? {
         return refutation(searcher, conflict);
     }
     let most = for_each_term(searcher, AFTER_TOLD);
@@ -83,7 +83,7 @@ fn recall(
 // without it what is found serves for later checks of the path, too. Then searches over all clauses.
 fn search(searcher: &mut Searcher, ground: &Ground, known: &mut Known) -> Result<End, AllocError> {
     note_keys(searcher.state.alloc, &mut searcher.state.shape, ground)?;
-    if let Some(conflict) = known.tell(searcher)? {
+    if let Some(conflict) = known.hand_over(searcher)? {
         return Ok(End::Refuted(conflict));
     }
     if let Some(conflict) = searcher.propagate()? {
@@ -121,7 +121,13 @@ fn refutation(searcher: &mut Searcher, conflict: u32) -> Result<Option<Found>, A
     Ok(Some(Found::Refutation(section)))
 }
 
-// The refutation by a clause that is false at level 0. Lemmas that the search showed are known from now on.
+// The truths of a search that ended with a structure. Lemmas that it has are known from now on.
+fn found(searcher: &mut Searcher, known: &mut Known) -> Result<Option<Found>, AllocError> {
+    let truths = truths(searcher)?;
+    known.keep(searcher).and(Ok(truths))
+}
+
+// The refutation by a clause that is false at level 0. Lemmas that the search has are known from now on.
 fn refuted(
     searcher: &mut Searcher,
     conflict: u32,
@@ -139,7 +145,7 @@ fn outcome(
 ) -> Result<Option<Found>, AllocError> {
     match end {
         End::Refuted(conflict) => refuted(searcher, *conflict, known),
-        End::Found(_made) => truths(searcher),
+        End::Found(_made) => found(searcher, known),
         End::Shown => Ok(None),
         End::TooLong => Ok(None),
     }
@@ -153,11 +159,12 @@ fn seek_soon(
     is_told: bool,
 ) -> Result<Option<Found>, AllocError> {
     let mut searcher = Searcher::new(alloc, ground, ground.count())?;
-    if is_told {
-        recall(&mut searcher, ground, known)
-    } else {
-        begin(&mut searcher, ground, known)
+    if !is_told {
+        return begin(&mut searcher, ground, known);
     }
+    let found = recall(&mut searcher, ground, known)?;
+    known.take_back(&mut searcher);
+    Ok(found)
 }
 
 // A search of any length.

@@ -299,18 +299,18 @@ impl Propagator {
             let node = self.watches.node(number);
             if self.trail.is_true(node.other) {
                 before = number;
-                number = node.next;
+                number = node.next();
                 continue;
             }
             match self.visit(number, node)? {
                 Visit::Kept => before = number,
                 Visit::Moved(code) => {
-                    self.watches.unlink(gone, before, node.next);
+                    self.watches.unlink(gone, before, node.next());
                     self.watches.link(Code(code), number);
                 }
                 Visit::Conflict => return Ok(Some(number / 2)),
             }
-            number = node.next;
+            number = node.next();
         }
         Ok(None)
     }
@@ -319,7 +319,7 @@ impl Propagator {
     fn visit(&mut self, number: u32, node: Node) -> Result<Visit, AllocError> {
         let (clause, mine) = (number / 2, (number % 2) as usize);
         let mut other = node.other;
-        if !node.is_pair {
+        if !node.is_pair() {
             other = self
                 .clauses
                 .code_at(self.clauses.start(clause).wrapping_add(1 - mine));

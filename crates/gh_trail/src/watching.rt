@@ -5,7 +5,7 @@ use crate::table::{at, put};
 use std::alloc::{AllocError, Global};
 
 /// The end of a list.
-pub const NO_NODE: u32 = u32::MAX;
+pub const NO_NODE: u32 = u32::MAX >> 1;
 
 /// What became of a clause that lost a watched literal.
 #[derive(Clone, Copy, Debug, PartialEq, Eq)]
@@ -18,20 +18,46 @@ pub enum Visit {
     Conflict,
 }
 
-/// A node of a list: the next one, another literal of the clause, and whether that is the only other one.
+/// A node of a list, in eight bytes, since each clause has two: another literal of the clause, the next node, and
+/// whether that literal is the only other one.
 #[derive(Clone, Copy, Debug)]
 pub struct Node {
-    pub next: u32,
     pub other: Code,
-    pub is_pair: bool,
+    // Twice the number of the next node, and one more where there is no third literal.
+    link: u32,
 }
 
 // What stands at the place of a node that isn't there.
 const NOTHING: Node = Node {
-    next: NO_NODE,
     other: Code(u32::MAX),
-    is_pair: false,
+    link: u32::MAX - 1,
 };
+
+impl Node {
+    // A node that stands in no list, of a clause with so many literals.
+    fn of_length(length: usize) -> Node {
+        let mut node = NOTHING;
+        if length == 2 {
+            node.link |= 1;
+        }
+        node
+    }
+
+    /// The next node of the list.
+    pub fn next(self) -> u32 {
+        self.link / 2
+    }
+
+    /// Whether the clause has two literals.
+    pub fn is_pair(self) -> bool {
+        self.link % 2 == 1
+    }
+
+    // Has the node lead to another.
+    fn set_next(&mut self, next: u32) {
+        self.link = next.wrapping_mul(2) | self.link & 1;
+    }
+}
 
 /// A clause has two nodes, twice its number and one more: they stand in the lists of its first and second literal.
 #[derive(Debug, Drop)]
@@ -58,9 +84,7 @@ impl Watches {
     /// Makes the two nodes of the next clause, which has so many literals. They stand in no list.
     pub fn enter(&mut self, length: usize) -> Result<(), AllocError> {
         for _ in 0..2 {
-            let mut node = NOTHING;
-            node.is_pair = length == 2;
-            self.nodes.push(node)?;
+            self.nodes.push(Node::of_length(length))?;
         }
         Ok(())
     }
@@ -85,7 +109,7 @@ impl Watches {
     // Has a node lead to another.
     fn set_next(&mut self, node: u32, next: u32) {
         if (node as usize) < self.nodes.len() {
-            self.nodes[node as usize].next = next;
+            self.nodes[node as usize].set_next(next);
         }
     }
 
