@@ -122,7 +122,7 @@ fn refutation(searcher: &mut Searcher, conflict: u32) -> Result<Option<Found>, A
 }
 
 // The truths of a search that ended with a structure. Lemmas that it has are known from now on.
-fn found(searcher: &mut Searcher, known: &mut Known) -> Result<Option<Found>, AllocError> {
+fn satisfied(searcher: &mut Searcher, known: &mut Known) -> Result<Option<Found>, AllocError> {
     let truths = truths(searcher)?;
     known.keep(searcher).and(Ok(truths))
 }
@@ -145,7 +145,7 @@ fn outcome(
 ) -> Result<Option<Found>, AllocError> {
     match end {
         End::Refuted(conflict) => refuted(searcher, *conflict, known),
-        End::Found(_made) => found(searcher, known),
+        End::Found(_made) => satisfied(searcher, known),
         End::Shown => Ok(None),
         End::TooLong => Ok(None),
     }
