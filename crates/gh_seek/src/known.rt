@@ -242,25 +242,32 @@ impl Carrier {
         true
     }
 
+    // Where a past clause comes from in the new search. Of a learnt one nothing, where what shows it isn't there.
+    fn origin_of(&self, past: &Past, number: u32) -> Option<Origin> {
+        let origin = past.clauses.origin(number)?;
+        let Origin::Learnt { from, to } = origin else {
+            return Some(origin);
+        };
+        if self.has_all(past.clauses.hints(from, to)) {
+            Some(Origin::Carried { from, to })
+        } else {
+            None
+        }
+    }
+
     // Adds a past clause, if what shows it is there. Answers one more than its number, or 0.
     fn add(&mut self, state: &mut Propagator, past: &Past, number: u32) -> Result<u32, AllocError> {
         if !self.find_codes(state, past, number)? {
             return Ok(0);
         }
-        let codes = self.codes.as_slice();
-        let added = match past.clauses.origin(number) {
-            None => return Ok(0),
-            Some(Origin::Ground(_)) => {
-                return Ok(find_ground(&self.grounds, &state.clauses, codes));
-            }
-            Some(Origin::Learnt { from, to }) => {
-                if !self.has_all(past.clauses.hints(from, to)) {
-                    return Ok(0);
-                }
-                state.clauses.push(codes, Origin::Carried { from, to })?
-            }
-            Some(origin) => state.clauses.push(codes, origin)?,
+        let Some(origin) = self.origin_of(past, number) else {
+            return Ok(0);
         };
+        let codes = self.codes.as_slice();
+        if let Origin::Ground(_) = origin {
+            return Ok(find_ground(&self.grounds, &state.clauses, codes));
+        }
+        let added = state.clauses.push(codes, origin)?;
         state.keep(added)?;
         Ok(added.wrapping_add(1))
     }
