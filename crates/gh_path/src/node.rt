@@ -3,6 +3,8 @@
 ghost use Rattle.std.specs.Prelude.{◌≡◌, ◌+◌, ◌∷◌, ◌++◌, [], length, slice_get, slice_index_or, Some, IfOk, OnOk};
 ghost use Rattle.gh_path.specs.Shown.{KeepsStep, KeepsGoal, KeepsAsked, LeadsBelow, from, with_opposite, step_past};
 ghost use Rattle.gh_path.specs.Shown.{step_from, other_way};
+ghost use Rattle.gh_path.specs.Graphs.{assume, assigned, written, called};
+ghost use Rattle.gh_path.specs.Kept.{step_of};
 ghost use Rattle.gh_path.specs.declared.node.Node.{Node as Plain};
 ghost use Rattle.gh_path.specs.declared.node.Node.TheVariants.{DeadEnd};
 
@@ -52,6 +54,58 @@ pub enum Step<'t> {
     },
 }
 
+// The step of a comparison, as it is kept.
+fn kept_assume(
+    alloc: Global,
+    left: &Expr,
+    equal: bool,
+    right: &Expr,
+) -> Result<PathStep, AllocError>
+    ensures { IfOk result (λ r. step_of r ≡ assume left.now equal right.now) }
+{
+    Ok(PathStep::Assume {
+        left: copy_expr(alloc, left)?,
+        equal,
+        right: copy_expr(alloc, right)?,
+    })
+}
+
+// The step that gives a variable a value, as it is kept.
+fn kept_set(alloc: Global, target: &Occ, value: &Expr) -> Result<PathStep, AllocError>
+    ensures { IfOk result (λ r. step_of r ≡ assigned target.now value.now) }
+{
+    Ok(PathStep::Set {
+        target: copy_occ(alloc, target)?,
+        value: copy_expr(alloc, value)?,
+    })
+}
+
+// The step that writes a cell, as it is kept.
+fn kept_write(alloc: Global, at: &Occ, value: &Expr) -> Result<PathStep, AllocError>
+    ensures { IfOk result (λ r. step_of r ≡ written at.now value.now) }
+{
+    Ok(PathStep::Write {
+        at: copy_occ(alloc, at)?,
+        value: copy_expr(alloc, value)?,
+    })
+}
+
+// The step of a call, as it is kept.
+fn kept_call(
+    alloc: Global,
+    targets: &[Occ],
+    callee: u16,
+    arguments: &[Expr],
+) -> Result<PathStep, AllocError>
+    ensures { IfOk result (λ r. step_of r ≡ called targets.now callee arguments.now) }
+{
+    Ok(PathStep::Call {
+        targets: copy_occs(alloc, targets)?,
+        callee,
+        arguments: copy_exprs(alloc, arguments)?,
+    })
+}
+
 impl<'t> Step<'t> {
     /// The step on the other way of a comparison.
     fn with_opposite(self) -> Step<'t>
@@ -75,19 +129,9 @@ impl<'t> Step<'t> {
             Step::Access { at } => Ok(PathStep::Access {
                 at: copy_occ(alloc, at)?,
             }),
-            Step::Assume { left, equal, right } => Ok(PathStep::Assume {
-                left: copy_expr(alloc, left)?,
-                equal: *equal,
-                right: copy_expr(alloc, right)?,
-            }),
-            Step::Set { target, value } => Ok(PathStep::Set {
-                target: copy_occ(alloc, target)?,
-                value: copy_expr(alloc, value)?,
-            }),
-            Step::Write { at, value } => Ok(PathStep::Write {
-                at: copy_occ(alloc, at)?,
-                value: copy_expr(alloc, value)?,
-            }),
+            Step::Assume { left, equal, right } => kept_assume(alloc, left, *equal, right),
+            Step::Set { target, value } => kept_set(alloc, target, value),
+            Step::Write { at, value } => kept_write(alloc, at, value),
             Step::New { target } => Ok(PathStep::New {
                 target: copy_occ(alloc, target)?,
             }),
@@ -98,11 +142,7 @@ impl<'t> Step<'t> {
                 targets,
                 callee,
                 arguments,
-            } => Ok(PathStep::Call {
-                targets: copy_occs(alloc, targets)?,
-                callee: *callee,
-                arguments: copy_exprs(alloc, arguments)?,
-            }),
+            } => kept_call(alloc, targets, *callee, arguments),
             Step::Loop { number } => Ok(PathStep::Loop { number: *number }),
             Step::Return { values } => Ok(PathStep::Return {
                 values: copy_exprs(alloc, values)?,

@@ -77,9 +77,10 @@ fn hold_step(
             return Ok(());
         }
     }
-    let step = nodes.step(origin).kept(alloc)?;
+    let step = nodes.step(origin);
     put(held, place, origin)?;
-    put(steps, place, step)?;
+    let kept = step.kept(alloc)?;
+    put(steps, place, kept)?;
     Ok(())
 }
 
