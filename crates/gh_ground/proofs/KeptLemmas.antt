@@ -24,7 +24,7 @@ use Rattle.gh_sat.specs.Whole.{AddsClause}
 use Rattle.gh_base.proofs.ListLemmas.{get_within, get_some, get_last}
 use Rattle.gh_sat.proofs.LearnLemmas.{false_in_range}
 use Rattle.gh_sat.proofs.TheoryLemmas.{added_cut}
-use Rattle.gh_ground.specs.Kept.{HasLineEach, KeepsLines, IsAnswered, IsUndecided, IsFalseAtLevelZero, IsEnded}
+use Rattle.gh_ground.specs.Kept.{HasLineEach, KeepsLines, IsAnswered}
 use Rattle.gh_ground.specs.Solving.{IsNoDeletion, RefutesProblem}
 
 -- the line of a clause with hints
@@ -212,13 +212,6 @@ pub answered_some : (s : SearchState) (a : Option ℕ) (k : ℕ) → IsAnswered 
 answered_some s a k h e = subst (λ (o : Option ℕ). IfSome o (IsConflictAt s)) e h.conflict
 
 -- what an answer says
-pub ended_open : (s : SearchState) (o : Option ℕ) → IsEnded s o → ((k : ℕ) → o ≡ Some k → ⊥) → IsUndecided s
-ended_open s None h none = h
-ended_open s (Some k) h none = absurd (none k refl)
-
-pub ended_refuted : (s : SearchState) (o : Option ℕ) (k : ℕ) → IsEnded s o → o ≡ Some k → IsFalseAtLevelZero s k
-ended_refuted s o k h e = subst (IsEnded s) e h
-
 pub kept_longer : (n : InstanceName) (before after more : List LogLine) → after ≡ before ++ more → Contains before (line.Axiom n) → Contains after (line.Axiom n)
 kept_longer n before after more is there = subst (λ (ls : List LogLine). Contains ls (line.Axiom n)) (sym is) (Contains-append_left before more (line.Axiom n) there)
 

@@ -19,7 +19,7 @@ use Rattle.gh_log.specs.Lines as line
 use Rattle.gh_log.specs.Sections.{line_clause}
 use Rattle.gh_sat.specs.Trail.{SearchState}
 use Rattle.gh_sat.proofs.ListLemmas.{lt_le}
-use Rattle.gh_ground.specs.Kept.{HasLineEach, KeepsLines}
+use Rattle.gh_ground.specs.Kept.{HasLineEach, KeepsLines, AddsInstance}
 use Rattle.gh_ground.specs.Solving.{IsModelOf}
 
 abbrev same_terms : List Term → List Term → Bool
@@ -54,8 +54,8 @@ missing ls [] = 0
 missing ls (n ∷ ns) = one_missing (has_name n ls) + missing ls ns
 
 -- how many instances have no line
-unfoldable pub unlisted : Problem → List LogLine → ℕ
-unlisted p ls = missing ls (instances p.sizes.terms p.sizes.versions)
+unfoldable pub unlisted : Sizes → List LogLine → ℕ
+unlisted z ls = missing ls (instances z.terms z.versions)
 
 and_true : (a b : Bool) → a && b ≡ true → (a ≡ true) × (b ≡ true)
 and_true true b e = (refl, e)
@@ -180,21 +180,35 @@ listed_true p s ls m n kept all w =
     All-contains (IsClauseTrue m) s.clauses (clause_of n) all
     (in_some s.clauses (clause_of n) (subst (λ (cs : List (Option (List Lit))). Contains cs (Some (clause_of n))) kept.clauses (in_map p ls (line.Axiom n) w)))
 
--- after a round fewer are missing
-pub round_less : (p : Problem) (s0 s1 s2 : SearchState) (l0 l1 l2 : List LogLine) (m : Interpretation) (z : Sizes) (names : List InstanceName) → z ≡ p.sizes → KeepsLines s0 l0 s1 l1 → HasLineEach p s1 l1 → All (IsClauseTrue m) s1.clauses
-    → All (IsFalseInstance z m) names → (names ≡ [] → ⊥) → KeepsLines s1 l1 s2 l2 → All (λ n. Contains l2 (line.Axiom n)) names
-    → unlisted p l2 < unlisted p l0
-unfolding unlisted
-round_less p s0 s1 s2 l0 l1 l2 m z [] same first kept all falses some then added = absurd (some (λ i. []))
-round_less p s0 s1 s2 l0 l1 l2 m z (n ∷ ns) same first kept all falses some then added =
+-- a false instance has no line, and then it has one
+pub adds_instance : (p : Problem) (s : SearchState) (before after : List LogLine) (m : Interpretation) (z : Sizes) (names : List InstanceName) → z ≡ s.sizes → HasLineEach p s before → All (IsClauseTrue m) s.clauses → All (IsFalseInstance z m) names
+    → (names ≡ [] → ⊥) → All (λ n. Contains after (line.Axiom n)) names → AddsInstance s before after
+adds_instance p s before after m z [] same kept all falses some added = absurd (some (λ i. []))
+adds_instance p s before after m z (n ∷ ns) same kept all falses some added =
     let is_false = All-head (IsFalseInstance z m) n ns falses in
-    let there : Contains l2 (line.Axiom n) = All-head (λ (x : InstanceName). Contains l2 (line.Axiom x)) n ns added in
-    let instance : IsInstance p.sizes.terms p.sizes.versions n = subst (λ (w : Sizes). IsInstance w.terms w.versions n) same is_false.0 in
-    let listed : Contains (instances p.sizes.terms p.sizes.versions) n = (all_are_listed p.sizes.terms p.sizes.versions n).1 instance in
-    let absent : has_name n l1 ≡ false = bool_is (has_name n l1) (λ e. is_false.1 (listed_true p s1 l1 m n kept all (has_is n l1 e))) in
-    let less = missing_found l1 l2 (λ x h. had_more x l1 then.more l2 then.longer h) (instances p.sizes.terms p.sizes.versions) n listed absent (is_had n l2 there) in
-    let no_more = missing_less l0 l1 (λ x h. had_more x l0 first.more l1 first.longer h) (instances p.sizes.terms p.sizes.versions) in
+    record {
+      name = n;
+      instance = subst (λ (w : Sizes). IsInstance w.terms w.versions n) same is_false.0;
+      absent = λ there. is_false.1 (listed_true p s before m n kept all there);
+      there = All-head (λ (x : InstanceName). Contains after (line.Axiom x)) n ns added;
+    }
+
+-- fewer are missing with a line for one that had none
+fewer_missing : (z : Sizes) (l0 l1 l2 first then : List LogLine) (n : InstanceName) → l1 ≡ l0 ++ first → l2 ≡ l1 ++ then → IsInstance z.terms z.versions n → (Contains l1 (line.Axiom n) → ⊥) → Contains l2 (line.Axiom n) → unlisted z l2 < unlisted z l0
+unfolding unlisted
+fewer_missing z l0 l1 l2 first then n longer longest instance absent there =
+    let listed : Contains (instances z.terms z.versions) n = (all_are_listed z.terms z.versions n).1 instance in
+    let none : has_name n l1 ≡ false = bool_is (has_name n l1) (λ e. absent (has_is n l1 e)) in
+    let less = missing_found l1 l2 (λ x h. had_more x l1 then l2 longest h) (instances z.terms z.versions) n listed none (is_had n l2 there) in
+    let no_more = missing_less l0 l1 (λ x h. had_more x l0 first l1 longer h) (instances z.terms z.versions) in
     lt_le less no_more
+
+-- after a round fewer are missing
+pub round_less : (s0 s1 s2 : SearchState) (l0 l1 l2 : List LogLine) → s1.sizes ≡ s0.sizes → s2.sizes ≡ s0.sizes → KeepsLines s0 l0 s1 l1 → AddsInstance s1 l1 l2 → KeepsLines s1 l1 s2 l2 → unlisted s2.sizes l2 < unlisted s0.sizes l0
+round_less s0 s1 s2 l0 l1 l2 same stays first added then =
+    let instance = subst (λ (w : Sizes). IsInstance w.terms w.versions added.name) same added.instance in
+    let less = fewer_missing s0.sizes l0 l1 l2 first.more then.more added.name first.longer then.longer instance added.absent added.there in
+    subst (λ (w : Sizes). unlisted w l2 < unlisted s0.sizes l0) (sym stays) less
 
 -- what a test of emptiness says
 pub none_there : (len : ℕ) (xs : List InstanceName) (b : Bool) → length xs ≡ len → b ≡ nat_eq len 0 → b ≡ true → xs ≡ []

@@ -1,12 +1,11 @@
 -- A section without the lines that nothing later needs.
 use Rattle.std.proofs.Common.{◌≡◌, ◌⊎◌, ℕ, zero, suc, ◌+◌, ◌-◌, ◌<◌, ◌≤◌, List, [], ◌∷◌, ◌++◌, length, take, get_or, map, Bool, true, false, Some, inl, inr, refl, sym, ap, ◌∙◌, subst, arith, All, Contains}
-use Rattle.std.specs.Prelude.{slice_get, slice_index}
+use Rattle.std.specs.Prelude.{IsTrue, slice_get, slice_index}
 use Rattle.std.proofs.lemmas.Bool.{cases_eq, false≢true}
 use Rattle.std.proofs.lemmas.List.{length_push, take_more}
-use Rattle.std.proofs.lemmas.Option.{get_or_from_slice_get, slice_get_read}
+use Rattle.std.proofs.lemmas.Option.{get_or_from_slice_get, slice_get-get_or, slice_get_read}
 use Rattle.std.proofs.lemmas.List.Elements.{All-cons, All-push, Contains-append_left, Contains-append_right}
 use Rattle.gh_base.specs.declared.atom.Lit.{Lit}
-use Rattle.gh_base.specs.declared.sizes.Sizes.{Sizes}
 use Rattle.gh_base.specs.Grounds.{Problem}
 use Rattle.gh_log.specs.Lines.{LogLine}
 use Rattle.gh_log.specs.Lines as line
@@ -300,11 +299,6 @@ none_left p lines kept place new positions needed end h = λ q lt.
           | inr ne ↦ let over = h.order b.0 a.0 (q + 1 + 1) (q + 1) (omega arith) a.2 b.3 a.3 in absurd (omega (arith, over))
         ]
 
--- what a `Ground` counts
-pub fits_types : (p : Problem) (s : Sizes) (count : ℕ) → s ≡ p.sizes → count ≡ length p.clauses → s.terms ≤ 255 → s.versions ≤ 255 → s.defs ≤ 4294967295 → count ≤ 4294967295 → FitsTypes p
-fits_types p s count is counted terms versions defs few =
-    subst (λ (z : Sizes). (z.terms ≤ 255) → (z.versions ≤ 255) → (z.defs ≤ 4294967295) → FitsTypes p) (sym is) (λ t v d. record { terms = t; versions = v; defs = d; clauses = omega arith }) terms versions defs
-
 -- what was trimmed is a refutation
 pub trimmed_refutes : (p : Problem) (s t : Section) (kept : List Bool) (place : ℕ) (positions : List ℕ) → FitsTypes p → AreNeeded s.lines kept 0 → place ≡ length s.lines
     → (IsGood p s.lines → IsRenumbered p s.lines kept place t.lines positions) → t.first ≡ 1 → length t.lines ≤ 4294967294 → RefutesProblem p s → IsRefutationOf p t
@@ -323,3 +317,24 @@ trimmed_refutes p s t kept place positions fits needed end trimmed first few h =
       few = few;
       trimmed = none_left p s.lines kept place t.lines positions needed end w;
     }
+
+-- where all lines are kept, each but the last is at a hint of a later one
+all_trimmed : (lines : List LogLine) (kept : List Bool) → All IsTrue kept → AreNeeded lines kept 0 → IsTrimmed lines
+all_trimmed lines kept all needed k lt =
+    let within : k < length kept = omega (arith, needed.long) in
+    let is : get_or kept k true ≡ true = all k true within in
+    elim (needed.only k (slice_get-get_or kept k true within ∙ ap Some is)) as (λ _. IsHintLater lines k) [
+      | inl last ↦ absurd (omega (arith, lt, last))
+      | inr w ↦ record { place = w.place; later = w.later; line = w.line; at = w.at; hint = w.hint }
+    ]
+
+-- a section that needs all its lines is a refutation
+pub whole_refutes : (p : Problem) (s : Section) (kept : List Bool) → FitsTypes p → AreNeeded s.lines kept 0 → All IsTrue kept → RefutesProblem p s → IsRefutationOf p s
+whole_refutes p s kept fits needed all h = record {
+  valid = h.valid;
+  spelled = spelled_lines p fits s.lines h.few h.version h.valid.of_kind;
+  no_deletions = h.no_deletions;
+  first = h.first;
+  few = h.few;
+  trimmed = all_trimmed s.lines kept all needed;
+}

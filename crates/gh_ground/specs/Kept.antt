@@ -3,12 +3,18 @@ use Rattle.std.specs.Prelude.{◌≡◌, ◌++◌, ⊤, ℕ, List, [], Option, S
 use Rattle.gh_base.specs.declared.atom.Lit.{Lit}
 use Rattle.gh_base.specs.Grounds.{Problem, IsProblem}
 use Rattle.gh_base.specs.Meaning.{IsEqualityClause}
+use Rattle.gh_base.specs.Structures.{Tables}
 use Rattle.gh_cc.specs.Asserted.{IsConsistent}
-use Rattle.gh_log.specs.Lines.{LogLine}
+use Rattle.gh_inst.specs.declared.naming.InstanceName.{InstanceName}
+use Rattle.gh_inst.specs.Instances.{IsInstance}
+use Rattle.gh_log.specs.Lines.{LogLine, Axiom}
 use Rattle.gh_log.specs.Sections.{line_clause, AreOfKind}
 use Rattle.gh_log.specs.Spelled.{IsOfVersion}
+use Rattle.gh_ground.specs.declared.solver.Outcome.{Outcome}
+use Rattle.gh_ground.specs.declared.solver.Outcome.TheVariants.{Model, Conflict}
 use Rattle.gh_ground.specs.declared.solver.Turn.{Turn}
 use Rattle.gh_ground.specs.declared.solver.Turn.TheVariants.{Ended, Answered}
+use Rattle.gh_ground.specs.Solving.{IsModelOf, RefutesProblem}
 use Rattle.gh_sat.specs.Learn.{IsConflictAt}
 use Rattle.gh_sat.specs.Status.{IsSettled, AreAssigned}
 use Rattle.gh_sat.specs.Theory.{lits_of, HasNoConflict, PropagatesBeside}
@@ -68,3 +74,23 @@ IfAnswered (Answered answer) P = P answer
 abbrev pub IfEnded : Turn → Type 0 → Type 0
 IfEnded Ended P = P
 IfEnded (Answered answer) P = ⊤
+
+-- a model of each problem whose lines these are
+abbrev pub IsModelOfEach : SearchState → List LogLine → Tables → Type 0
+IsModelOfEach s lines t = (p : Problem) → HasLineEach p s lines → IsModelOf p t
+
+-- an instance that had no line has one
+pub record AddsInstance (s : SearchState) (before after : List LogLine) : Type 0 where
+  pub name : InstanceName
+  pub instance : IsInstance s.sizes.terms s.sizes.versions name
+  pub absent : Contains before (Axiom name) → ⊥
+  pub there : Contains after (Axiom name)
+
+-- what a search came to that began with such lines
+abbrev pub IsOutcome : SearchState → List LogLine → SearchState → Outcome → Type 0
+IsOutcome s lines after (Model t) = IsModelOfEach s lines t
+IsOutcome s lines after (Conflict k) = IsFalseAtLevelZero after k
+
+-- with what was added, the lines refute each problem whose lines they were
+abbrev pub Refutes : SearchState → List LogLine → List LogLine → Type 0
+Refutes s before after = (p : Problem) → HasLineEach p s before → RefutesProblem p (record { first = 1; lines = after })

@@ -3,16 +3,16 @@
 ghost use Rattle.std.specs.Prelude.{◌≤◌, IfOk, OnOk};
 ghost use Rattle.gh_cc.specs.Fields.{most_filed};
 ghost use Rattle.gh_base.specs.Atoms.{count_of};
-ghost use Rattle.gh_ground.specs.Solving.{IsAnswer};
+ghost use Rattle.gh_ground.specs.Kept.{HasLineEach, IsFalseAtLevelZero};
+ghost use Rattle.gh_ground.specs.Solving.{IsAnswer, IsRefutationOf};
 
 use crate::proposal::refutes;
-use crate::solver::Solver;
+use crate::solver::{Outcome, Solver};
 use crate::trim::trim;
 use gh_base::atom::Lit;
 use gh_base::ground::Ground;
 use gh_base::structure::Structure;
 use gh_cc::classes::MOST_FILED;
-use gh_inst::collecting::false_instances;
 use gh_log::lines::Section;
 use gh_seek::known::Known;
 use gh_seek::seek::{Found, seek};
@@ -25,24 +25,42 @@ pub enum Answer {
     Refutation(Section),
 }
 
-// Decides by a search that tries the literals' truths first, and adds instances where a structure makes them false.
+// The section of a search that came to a conflict at level 0.
+fn refutation(
+    alloc: Global,
+    ground: &Ground,
+    solver: &mut Solver,
+    conflict: u32,
+) -> Result<Section, AllocError>
+    requires kept { HasLineEach ground.now solver.old.search solver.old.lines }
+    requires conflict { IsFalseAtLevelZero solver.old.search conflict }
+    ensures { IfOk result (IsRefutationOf ground.now) }
+{
+    solver.refute(alloc, conflict)?;
+    trim(alloc, ground, solver.take_section(alloc))
+}
+
+// What a search comes to.
+fn answer_of(alloc: Global, ground: &Ground, solver: &mut Solver) -> Result<Answer, AllocError>
+    requires { HasLineEach ground.now solver.old.search solver.old.lines }
+    ensures { IfOk result (λ answer. IsAnswer ground.now answer) }
+{
+    match solver.outcome(alloc)? {
+        Outcome::Model(structure) => Ok(Answer::Model(structure)),
+        Outcome::Conflict(conflict) => {
+            let section = refutation(alloc, ground, solver, conflict)?;
+            Ok(Answer::Refutation(section))
+        }
+    }
+}
+
+// Decides by a search that tries the literals' truths first.
 fn search_from(alloc: Global, ground: &Ground, truths: &[Lit]) -> Result<Answer, AllocError>
     ensures answer { IfOk result (λ answer. IsAnswer ground.now answer) }
     ensures few { OnOk result (count_of ground.now.sizes ≤ most_filed) }
 {
     let mut solver = Solver::new(alloc, ground, truths)?;
-    loop {
-        if let Some(conflict) = solver.conflict(alloc)? {
-            let section = solver.into_section(alloc, conflict)?;
-            return Ok(Answer::Refutation(trim(alloc, ground, &section)?));
-        }
-        let structure = solver.structure(alloc)?;
-        let names = false_instances(alloc, &structure)?;
-        if names.is_empty() {
-            return Ok(Answer::Model(structure));
-        }
-        solver.add_instances(alloc, names.as_slice())?;
-    }
+    answer_of(alloc, ground, &mut solver)
 }
 
 /// Decides ground clauses together with all axiom instances. A search whose answers are checked (`gh_seek`) is asked
@@ -70,7 +88,7 @@ pub fn solve_with(alloc: Global, ground: &Ground, known: &mut Known) -> Result<A
     match seek(alloc, ground, known)? {
         Found::Refutation(section) => {
             if refutes(alloc, ground, &section)? {
-                return Ok(Answer::Refutation(trim(alloc, ground, &section)?));
+                return Ok(Answer::Refutation(trim(alloc, ground, section)?));
             }
             Ok(search_from(alloc, ground, &[])?)
         }

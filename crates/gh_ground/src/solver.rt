@@ -1,7 +1,7 @@
 //! A search whose clauses are the lines of a section.
 
-ghost use Rattle.std.specs.Prelude.{◌≡◌, ◌<◌, ◌≤◌, ◌+◌, All, Contains, IfOk, OnOk, Some, None, []};
-ghost use Rattle.std.specs.Prelude.{length, map, slice_get};
+ghost use Rattle.std.specs.Prelude.{◌≡◌, ◌<◌, ◌≤◌, ◌+◌, All, Contains, IfNone, IfOk, IfSome, OnOk, Some, None};
+ghost use Rattle.std.specs.Prelude.{[], length, map, slice_get};
 ghost use Rattle.gh_cc.specs.Fields.{most_filed};
 ghost use Rattle.gh_base.specs.Atoms.{count_of};
 ghost use Rattle.gh_base.specs.Grounds.{Problem};
@@ -12,8 +12,7 @@ ghost use Rattle.gh_log.specs.Lines.{Axiom};
 ghost use Rattle.gh_log.specs.Sections.{line_clause, AreOfKind};
 ghost use Rattle.gh_log.specs.Spelled.{IsOfVersion};
 ghost use Rattle.gh_ground.specs.Kept.{HasLineEach, KeepsLines, Propagates, IsAnswered, IsUndecided, IsFalseAtLevelZero};
-ghost use Rattle.gh_ground.specs.Kept.{IsEnded, IfAnswered, IfEnded};
-ghost use Rattle.gh_ground.specs.Solving.{RefutesProblem};
+ghost use Rattle.gh_ground.specs.Kept.{IsEnded, IfAnswered, IfEnded, IsModelOfEach, AddsInstance, IsOutcome, Refutes};
 ghost use Rattle.gh_sat.specs.Learn.{IsConflictAt};
 ghost use Rattle.gh_sat.specs.Measure.{LeavesLess};
 ghost use Rattle.gh_sat.specs.Trail.{IsSound};
@@ -25,10 +24,12 @@ use gh_base::atom::Lit;
 use gh_base::clause::Clause;
 use gh_base::ground::Ground;
 use gh_base::structure::Structure;
+use gh_inst::collecting::false_instances;
 use gh_inst::naming::{InstanceName, instance};
 use gh_log::lines::{Lines, LogLine, Section};
 use gh_sat::search::Search;
 use std::alloc::{AllocError, Global};
+use std::mem;
 
 /// A search over ground clauses beside equality and congruence, and a line for each of its clauses.
 #[derive(Drop)]
@@ -37,6 +38,15 @@ pub(crate) struct Solver {
     lines: Lines,
     // A far lesson cuts so many levels and one more.
     stride: u32,
+}
+
+/// What a search comes to.
+#[derive(Drop)]
+pub(crate) enum Outcome {
+    /// All clauses and all axiom instances are true in a structure.
+    Model(Structure),
+    /// The clause of a number is false at level 0.
+    Conflict(u32),
 }
 
 // What a turn of the search comes to.
@@ -111,10 +121,9 @@ impl Solver {
         ensures lines { IfOk result (λ s. HasLineEach ground.now s.search s.lines) }
         ensures few { OnOk result (count_of ground.now.sizes ≤ most_filed) }
     {
-        let sizes = ground.sizes();
-        let theory = Congruence::new(alloc, sizes, truths)?;
-        let search = Search::new(alloc, ground, theory)?;
         let lines = ground_lines(alloc, ground)?;
+        let theory = Congruence::new(alloc, ground.sizes(), truths)?;
+        let search = Search::new(alloc, ground, theory)?;
         Ok(Solver {
             search,
             lines,
@@ -204,9 +213,9 @@ impl Solver {
         }
     }
 
-    /// Searches on until all atoms of clauses are assigned without conflict, or a clause is false at level 0, and
-    /// answers its number.
-    pub(crate) fn conflict(&mut self, alloc: Global) -> Result<Option<u32>, AllocError>
+    // Searches on until all atoms of clauses are assigned without conflict, or a clause is false at level 0, and
+    // answers its number.
+    fn conflict(&mut self, alloc: Global) -> Result<Option<u32>, AllocError>
         ensures ended { IfOk result (IsEnded self.new.search) }
         ensures keeps { OnOk result (KeepsLines self.old.search self.old.lines self.new.search self.new.lines) }
     {
@@ -217,8 +226,8 @@ impl Solver {
         Ok(found)
     }
 
-    /// The structure of what the trail asserts.
-    pub(crate) fn structure(&self, alloc: Global) -> Result<Structure, AllocError>
+    // The structure of what the trail asserts.
+    fn structure(&self, alloc: Global) -> Result<Structure, AllocError>
         requires open { IsUndecided self.now.search }
         requires kept { (p : Problem) × HasLineEach p self.now.search self.now.lines }
         ensures sizes { IfOk result (λ s. s.sizes ≡ self.now.search.sizes) }
@@ -246,12 +255,8 @@ impl Solver {
         Ok(())
     }
 
-    /// Adds instances of axiom rows.
-    pub(crate) fn add_instances(
-        &mut self,
-        alloc: Global,
-        names: &[InstanceName],
-    ) -> Result<(), AllocError>
+    // Adds instances of axiom rows.
+    fn add_instances(&mut self, alloc: Global, names: &[InstanceName]) -> Result<(), AllocError>
         requires { All (IsInstance self.old.search.sizes.terms self.old.search.sizes.versions) names.now }
         ensures added { OnOk result (All (λ name. Contains self.new.lines (Axiom name)) names.now) }
         ensures keeps { OnOk result (KeepsLines self.old.search self.old.lines self.new.search self.new.lines) }
@@ -262,14 +267,44 @@ impl Solver {
         Ok(())
     }
 
-    /// The section of a refutation: a clause is false at level 0.
-    pub(crate) fn into_section(
-        mut self,
-        alloc: Global,
-        conflict: u32,
-    ) -> Result<Section, AllocError>
-        requires { IsFalseAtLevelZero self.search conflict }
-        ensures { IfOk result (λ s. (p : Problem) → HasLineEach p self.search self.lines → RefutesProblem p s) }
+    // The structure of what the trail asserts, if all axiom instances are true in it; else false ones are added.
+    fn model(&mut self, alloc: Global) -> Result<Option<Structure>, AllocError>
+        requires open { IsUndecided self.old.search }
+        requires kept { (p : Problem) × HasLineEach p self.old.search self.old.lines }
+        ensures model { IfOk result (λ o. IfSome o (IsModelOfEach self.old.search self.old.lines)) }
+        ensures added { IfOk result (λ o. IfNone o (AddsInstance self.old.search self.old.lines self.new.lines)) }
+        ensures keeps { OnOk result (KeepsLines self.old.search self.old.lines self.new.search self.new.lines) }
+    {
+        let structure = self.structure(alloc)?;
+        let names = false_instances(alloc, &structure)?;
+        if names.is_empty() {
+            return Ok(Some(structure));
+        }
+        self.add_instances(alloc, names.as_slice())?;
+        Ok(None)
+    }
+
+    /// Searches on, and adds instances where a structure makes them false, until none is false or a clause is false at
+    /// level 0.
+    pub(crate) fn outcome(&mut self, alloc: Global) -> Result<Outcome, AllocError>
+        requires { (p : Problem) × HasLineEach p self.old.search self.old.lines }
+        ensures outcome { IfOk result (IsOutcome self.old.search self.old.lines self.new.search) }
+        ensures keeps { OnOk result (KeepsLines self.old.search self.old.lines self.new.search self.new.lines) }
+    {
+        loop {
+            if let Some(conflict) = self.conflict(alloc)? {
+                return Ok(Outcome::Conflict(conflict));
+            }
+            if let Some(structure) = self.model(alloc)? {
+                return Ok(Outcome::Model(structure));
+            }
+        }
+    }
+
+    /// Ends the lines with the empty clause: a clause is false at level 0.
+    pub(crate) fn refute(&mut self, alloc: Global, conflict: u32) -> Result<(), AllocError>
+        requires { IsFalseAtLevelZero self.old.search conflict }
+        ensures { OnOk result (Refutes self.old.search self.old.lines self.new.lines) }
     {
         let _count = self.search.count();
         let reasons = self.search.refutation(alloc, conflict)?;
@@ -279,9 +314,17 @@ impl Solver {
             hints: hints.as_slice(),
         };
         self.lines.push(last)?;
-        Ok(Section {
+        Ok(())
+    }
+
+    /// The section of the lines, which are given away.
+    pub(crate) fn take_section(&mut self, alloc: Global) -> Section
+        ensures first { result.first ≡ 1 }
+        ensures lines { result.lines ≡ self.old.lines }
+    {
+        Section {
             first: 1,
-            lines: self.lines,
-        })
+            lines: mem::replace(&mut self.lines, Lines::new(alloc)),
+        }
     }
 }

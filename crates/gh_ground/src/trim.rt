@@ -1,9 +1,9 @@
 //! Sections without the lines that nothing later needs.
 
-ghost use Rattle.std.specs.Prelude.{◌≡◌, ◌⊎◌, ◌+◌, ◌-◌, ◌<◌, ◌≤◌, ◌∷◌, [], ℕ, IfOk, OnOk, length, map, slice_get};
-ghost use Rattle.std.specs.Prelude.{slice_index};
+ghost use Rattle.std.specs.Prelude.{◌≡◌, ◌⊎◌, ◌+◌, ◌-◌, ◌<◌, ◌≤◌, ◌∷◌, [], ℕ, IfOk, IsTrue, OnOk, All, length, map};
+ghost use Rattle.std.specs.Prelude.{slice_get, slice_index};
 ghost use Rattle.gh_log.specs.Tables.{line_of};
-ghost use Rattle.gh_ground.specs.Solving.{hints_of, RefutesProblem, IsRefutationOf};
+ghost use Rattle.gh_ground.specs.Solving.{hints_of, FitsTypes, RefutesProblem, IsRefutationOf};
 ghost use Rattle.gh_ground.specs.Trimming.{IsKeptAt, AreKeptBefore, AreHintsKept, KeepsOnly, AreNeeded, AddsMoved};
 ghost use Rattle.gh_ground.specs.Trimming.{MovesLine, AddsPosition};
 
@@ -179,15 +179,39 @@ impl Trimmed {
     }
 }
 
-/// The lines that something later needs of a section that refutes ground clauses: they refute them too.
-pub(crate) fn trim(alloc: Global, ground: &Ground, section: &Section) -> Result<Section, AllocError>
-    requires { RefutesProblem ground.now section.now }
-    ensures { IfOk result (IsRefutationOf ground.now) }
+// All lines are kept.
+fn are_all_kept(kept: &[bool]) -> bool
+    ensures { IsTrue result → All IsTrue kept.now }
+{
+    for is_kept in kept {
+        if !*is_kept {
+            return false;
+        }
+    }
+    true
+}
+
+// What ground clauses count fits the types that count it.
+fn fits_types(ground: &Ground)
+    ensures { FitsTypes ground.now }
 {
     let _sizes = ground.sizes();
     let _count = ground.count();
+}
+
+// A section without the lines that aren't kept.
+fn shorten(
+    alloc: Global,
+    ground: &Ground,
+    section: &Section,
+    kept: &[bool],
+) -> Result<Section, AllocError>
+    requires refutes { RefutesProblem ground.now section.now }
+    requires needed { AreNeeded section.now.lines kept.now 0 }
+    ensures { IfOk result (IsRefutationOf ground.now) }
+{
+    fits_types(ground);
     let lines = &section.lines;
-    let kept = needed(alloc, lines)?;
     let mut trimmed = Trimmed {
         lines: Lines::new(alloc),
         positions: Vec::with_capacity(alloc, lines.len())?,
@@ -204,4 +228,18 @@ pub(crate) fn trim(alloc: Global, ground: &Ground, section: &Section) -> Result<
         first: 1,
         lines: trimmed.lines,
     })
+}
+
+/// The lines that something later needs of a section that refutes ground clauses: they refute them too. A section that
+/// needs all its lines is answered as it is, without a copy.
+pub(crate) fn trim(alloc: Global, ground: &Ground, section: Section) -> Result<Section, AllocError>
+    requires { RefutesProblem ground.now section }
+    ensures { IfOk result (IsRefutationOf ground.now) }
+{
+    fits_types(ground);
+    let kept = needed(alloc, &section.lines)?;
+    if are_all_kept(kept.as_slice()) {
+        return Ok(section);
+    }
+    shorten(alloc, ground, &section, kept.as_slice())
 }
