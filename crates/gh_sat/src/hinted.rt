@@ -74,12 +74,19 @@ impl Hinted {
         let group = lowest(self.blocks.as_slice(), block)?;
         let word = lowest(self.words.as_slice(), group)?;
         let place = lowest(self.places.as_slice(), word)?;
+        self.clear(group, word, place);
+        Some(place)
+    }
+
+    // Takes a place out, and what led to it where that leads nowhere then.
+    fn clear(&mut self, group: usize, word: usize, place: usize)
+        ensures { Clears self.old.places.items self.new.places.items place }
+    {
         if clear_bit(self.places.as_mut_slice(), place) {
             if clear_bit(self.words.as_mut_slice(), word) {
                 clear_bit(self.blocks.as_mut_slice(), group);
             }
         }
-        Some(place)
     }
 
     /// Takes the place out to which the first block leads that leads to one, if there is one.

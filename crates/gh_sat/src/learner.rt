@@ -1,19 +1,20 @@
 //! A search over clauses alone.
 
-ghost use Rattle.std.specs.Prelude.{◌≡◌, ◌⊎◌, ℕ, ◌+◌, ◌*◌, ◌-◌, ◌<◌, ◌≤◌, [], length, take, IfOk, OnOk, OnErr, IfSome};
-ghost use Rattle.std.specs.Prelude.{IfNone, Some, None, false, slice_get, vec_capacity, option_copied};
+ghost use Rattle.std.specs.Prelude.{◌≡◌, ◌⊎◌, ℕ, ◌+◌, ◌*◌, ◌-◌, ◌<◌, ◌≤◌, [], ◌∷◌, ◌++◌, length, take, IfOk, OnOk, OnErr};
+ghost use Rattle.std.specs.Prelude.{IfSome, IfNone, Some, None, false, slice_get, vec_capacity, option_copied};
 ghost use Rattle.gh_base.specs.declared.atom.Lit.{Lit};
 ghost use Rattle.gh_base.specs.Atoms.{IsInRange, AreInRange, count_of};
+ghost use Rattle.gh_sat.specs.declared.status.Hint.{Hint};
 ghost use Rattle.gh_sat.specs.declared.trail.Step.{Step};
 ghost use Rattle.gh_sat.specs.Rows.{row_of};
 ghost use Rattle.gh_sat.specs.Trail.{IsFalseIn, AreSteps, AllHaveTruth, OpensLevel, search_over, most_clauses};
-ghost use Rattle.gh_sat.specs.Learn.{IsTop};
+ghost use Rattle.gh_sat.specs.Learn.{IsTop, marked_reasons};
 
-use crate::marks::{Marks, begin, resolve};
+use crate::marks::{Marks, begin, no_marks, resolve};
 use crate::needed::{first_free, occurs};
 use crate::occurrences::Occurrences;
 use crate::propagation::{Database, propagate};
-use crate::reasons::{mark_reached, reasons_from};
+use crate::reasons::{all_reasons, reasons_from};
 use crate::rows::Row;
 use crate::status::Hint;
 use crate::trail::{Step, Trail};
@@ -142,6 +143,31 @@ fn next_row(
     Ok(row)
 }
 
+// Adds a clause last, with its row and a hint.
+fn append(
+    alloc: Global,
+    sizes: Sizes,
+    clauses: &mut Vec<Clause>,
+    rows: &mut Vec<Row>,
+    hints: &mut Vec<Hint>,
+    clause: Clause,
+) -> Result<(), AllocError>
+    requires range { AreInRange sizes clause }
+    requires small { count_of sizes ≤ 4294967294 }
+    ensures clauses { OnOk result (clauses.new.items ≡ clauses.old.items ++ clause ∷ []) }
+    ensures rows { OnOk result (rows.new.items ≡ rows.old.items ++ row_of sizes clause ∷ []) }
+    ensures hints { OnOk result ((h : Hint) × (hints.new.items ≡ hints.old.items ++ h ∷ [])) }
+    ensures same_clauses { OnErr result (clauses.new.items ≡ clauses.old.items) }
+    ensures same_rows { OnErr result (rows.new.items ≡ rows.old.items) }
+    ensures same_hints { OnErr result (hints.new.items ≡ hints.old.items) }
+{
+    let row = next_row(alloc, sizes, &clause, rows, hints)?;
+    clauses.push(clause)?;
+    rows.push_reserved(row);
+    hints.push_reserved(Hint::default());
+    Ok(())
+}
+
 // How many clauses need no look when the trail is cut to a place at which a level is opened: those that were looked at,
 // where all of the trail is known by then.
 fn settled_count(looked: u32, head: u32, length: usize) -> u32
@@ -175,6 +201,33 @@ fn bump_marked(trail: &mut Trail, marks: &Marks, place: usize) -> Result<(), All
     Ok(())
 }
 
+// What is learnt where resolving ends at a place, whose literal turned is the unit, once that is with the others.
+fn learnt_of(
+    alloc: Global,
+    marks: &Marks,
+    trail: &Trail,
+    place: usize,
+    conflict: u32,
+    unit: Lit,
+) -> Result<Learnt, AllocError>
+    requires within { place < length trail.now.steps }
+    requires long { length trail.now.steps ≤ length marks.now.stamps.items }
+    ensures clause { IfOk result (λ l. l.clause ≡ marks.now.lower.items) }
+    ensures level { IfOk result (λ l. l.level ≡ marks.now.level) }
+    ensures unit { IfOk result (λ l. l.unit ≡ unit) }
+    ensures reasons { IfOk result (λ l.
+        l.reasons.items ≡ marked_reasons marks.now trail.now.steps (place + 1) ++ conflict ∷ []) }
+{
+    let reasons = reasons_from(alloc, marks, trail, place + 1, conflict)?;
+    let clause = Clause::from_lits(alloc, marks.lower.as_slice())?;
+    Ok(Learnt {
+        clause,
+        level: marks.level,
+        unit,
+        reasons,
+    })
+}
+
 // Hints at the atoms of the rows from a place on.
 fn hint_rows(trail: &mut Trail, rows: &[Row], from: usize)
     ensures { trail.new ≡ trail.old }
@@ -184,6 +237,18 @@ fn hint_rows(trail: &mut Trail, rows: &[Row], from: usize)
             trail.hint(lit.number as usize);
         }
     }
+}
+
+// Room for the starts and the counts of so many levels.
+fn level_room(alloc: Global, atoms: usize) -> Result<(Vec<u32>, Vec<u32>), AllocError>
+    ensures starts { IfOk result (λ p. p.0.items ≡ []) }
+    ensures counts { IfOk result (λ p. p.1.items ≡ []) }
+    ensures starts_room { IfOk result (λ p. atoms ≤ vec_capacity p.0) }
+    ensures counts_room { IfOk result (λ p. atoms ≤ vec_capacity p.1) }
+{
+    let starts = Vec::with_capacity(alloc, atoms)?;
+    let counts = Vec::with_capacity(alloc, atoms)?;
+    Ok((starts, counts))
 }
 
 impl Learner {
@@ -199,25 +264,20 @@ impl Learner {
     {
         let trail = Trail::new(alloc, sizes)?;
         let atoms = trail.sizes().count();
+        let marks = no_marks(alloc, atoms)?;
+        let occurrences = Occurrences::new(alloc, atoms)?;
+        let (starts, counts) = level_room(alloc, atoms)?;
         Ok(Learner {
             clauses: Vec::new(alloc),
             rows: Vec::new(alloc),
             hints: Vec::new(alloc),
             trail,
-            starts: Vec::with_capacity(alloc, atoms)?,
-            counts: Vec::with_capacity(alloc, atoms)?,
+            starts,
+            counts,
             looked: 0,
             head: 0,
-            occurrences: Occurrences::new(alloc, atoms)?,
-            marks: Marks {
-                stamps: vec![in alloc; 0; atoms]?,
-                round: 0,
-                lower: Vec::new(alloc),
-                level: 0,
-                start: 0,
-                end: 0,
-                waiting: 0,
-            },
+            occurrences,
+            marks,
             noted: 0,
             alloc,
         })
@@ -230,12 +290,22 @@ impl Learner {
         ensures few { OnOk result (length ground.now.clauses ≤ most_clauses) }
     {
         let mut learner = Learner::empty(alloc, ground.sizes())?;
+        learner.insert_all(alloc, ground)?;
+        Ok(learner)
+    }
+
+    // Adds the clauses of a problem to a search that has nothing yet.
+    fn insert_all(&mut self, alloc: Global, ground: &Ground) -> Result<(), AllocError>
+        requires { self.old ≡ search_over ground.now.sizes [] }
+        ensures over { OnOk result (self.new ≡ search_over ground.now.sizes ground.now.clauses) }
+        ensures few { OnOk result (length ground.now.clauses ≤ most_clauses) }
+    {
         let mut number = 0;
         while let Some(clause) = ground.clause(number) {
-            learner.insert(clause.copy(alloc)?)?;
+            self.insert(clause.copy(alloc)?)?;
             number += 1;
         }
-        Ok(learner)
+        Ok(())
     }
 
     /// Adds a clause last that wasn't false when a level was opened. There are at most `MOST_CLAUSES`: where there are
@@ -277,13 +347,10 @@ impl Learner {
             return Err(AllocError);
         }
         let number = self.clauses.len() as u32;
-        self.occurrences
-            .note(self.trail.sizes(), clause.lits(), number)?;
-        let (rows, hints) = (&mut self.rows, &mut self.hints);
-        let row = next_row(self.alloc, self.trail.sizes(), &clause, rows, hints)?;
-        self.clauses.push(clause)?;
-        self.rows.push_reserved(row);
-        self.hints.push_reserved(Hint::default());
+        let sizes = self.trail.sizes();
+        self.occurrences.note(sizes, clause.lits(), number)?;
+        let (clauses, rows, hints) = (&mut self.clauses, &mut self.rows, &mut self.hints);
+        append(self.alloc, sizes, clauses, rows, hints, clause)?;
         if level as usize >= self.starts.len() {
             return Ok(());
         }
@@ -476,19 +543,24 @@ impl Learner {
             self.clauses[conflict as usize].lits(),
         )?;
         let unit = self.trail.steps()[place].lit.negated();
-        let reasons = reasons_from(alloc, &self.marks, &self.trail, place + 1, conflict)?;
         self.marks.lower.push(unit)?;
-        let level = self.marks.level;
-        let clause = Clause::from_lits(alloc, self.marks.lower.as_slice())?;
-        let added = clause.copy(alloc)?;
         bump_marked(&mut self.trail, &self.marks, place)?;
+        let learnt = learnt_of(alloc, &self.marks, &self.trail, place, conflict, unit)?;
+        self.keep(alloc, learnt)
+    }
+
+    // Adds a copy of what was learnt, which is answered.
+    fn keep(&mut self, alloc: Global, learnt: Learnt) -> Result<Learnt, AllocError>
+        requires range { AreInRange self.old.sizes learnt.clause }
+        requires was_open { WasOpen self.old.trail self.old.starts learnt.clause }
+        ensures same { IfOk result (λ l. l ≡ learnt) }
+        ensures added { IfOk result (λ l. self.new ≡ add_clause self.old l.clause) }
+        ensures few { OnOk result (length self.new.clauses ≤ most_clauses) }
+        ensures err { OnErr result (self.new ≡ self.old) }
+    {
+        let added = learnt.clause.copy(alloc)?;
         self.insert(added)?;
-        Ok(Learnt {
-            clause,
-            level,
-            unit,
-            reasons,
-        })
+        Ok(learnt)
     }
 
     /// Where a clause is false at level 0, numbers of clauses that, taken as hints in this order, show the empty
@@ -499,14 +571,8 @@ impl Learner {
         ensures reasons { IfOk result (λ v. AreReasons self.old.clauses v.items []) }
         ensures same { self.new ≡ self.old }
     {
-        begin(&mut self.marks, 0, self.trail.steps().len());
-        mark_reached(
-            &mut self.marks,
-            &self.trail,
-            self.clauses.as_slice(),
-            self.clauses[conflict as usize].lits(),
-        )?;
-        let reasons = reasons_from(alloc, &self.marks, &self.trail, 0, conflict)?;
+        let clauses = self.clauses.as_slice();
+        let reasons = all_reasons(alloc, &mut self.marks, &self.trail, clauses, conflict)?;
         Ok(reasons)
     }
 }

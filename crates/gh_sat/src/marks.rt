@@ -9,7 +9,7 @@ ghost use Rattle.gh_sat.specs.Learn.{HaveReasons, IsLastMarked, AreMarksWithin, 
 use crate::trail::Trail;
 use gh_base::atom::Lit;
 use gh_base::clause::Clause;
-use std::alloc::AllocError;
+use std::alloc::{AllocError, Global};
 
 /// Marks by place: a place is marked where its stamp is the round.
 #[derive(Drop)]
@@ -23,6 +23,22 @@ pub struct Marks {
     pub start: usize,
     pub end: usize,
     pub waiting: usize,
+}
+
+/// No mark, with a stamp for each of so many places.
+pub fn no_marks(alloc: Global, places: usize) -> Result<Marks, AllocError>
+    ensures bounded { IfOk result (λ m. IsBounded (marks_of m)) }
+    ensures long { IfOk result (λ m. length m.stamps.items ≡ places) }
+{
+    Ok(Marks {
+        stamps: vec![in alloc; 0; places]?,
+        round: 0,
+        lower: Vec::new(alloc),
+        level: 0,
+        start: 0,
+        end: 0,
+        waiting: 0,
+    })
 }
 
 // No stamp is of a round.

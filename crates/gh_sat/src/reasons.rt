@@ -3,11 +3,12 @@
 
 ghost use Rattle.std.specs.Prelude.{◌≡◌, ◌<◌, ◌≤◌, ◌∷◌, ◌++◌, [], length, All, OnOk, IfOk};
 ghost use Rattle.gh_base.specs.Atoms.{AreInRange};
-ghost use Rattle.gh_sat.specs.Trail.{IsFalseIn, AreSteps};
+ghost use Rattle.gh_sat.specs.Status.{IsFalseClause};
+ghost use Rattle.gh_sat.specs.Trail.{IsFalseIn, AreSteps, IsSound};
 ghost use Rattle.gh_sat.specs.Learn.{marks_of, AllMarked, IsBounded, AreMarks, AllHaveReasons, ResolvedFrom};
-ghost use Rattle.gh_sat.specs.Learn.{marked_reasons, IsMarkedReason};
+ghost use Rattle.gh_sat.specs.Learn.{marked_reasons, IsMarkedReason, AreReasons};
 
-use crate::marks::{Marks, last_marked, mark_all};
+use crate::marks::{Marks, begin, last_marked, mark_all};
 use crate::trail::Trail;
 use gh_base::atom::Lit;
 use gh_base::clause::Clause;
@@ -78,5 +79,32 @@ pub fn reasons_from(
         }
     }
     reasons.push(conflict)?;
+    Ok(reasons)
+}
+
+/// Clauses that, as hints in this order, show the empty clause, where a clause is false and no level is open.
+pub fn all_reasons(
+    alloc: Global,
+    marks: &mut Marks,
+    trail: &Trail,
+    clauses: &[Clause],
+    conflict: u32,
+) -> Result<Vec<u32>, AllocError>
+    requires sound { IsSound (record {
+      sizes = trail.now.sizes;
+      clauses = clauses.now;
+      trail = trail.now.steps;
+      starts = [];
+    }) }
+    requires conflict { IsFalseClause clauses.now trail.now.steps conflict }
+    requires bounded { IsBounded (marks_of marks.old) }
+    requires long { length trail.now.steps ≤ length marks.old.stamps.items }
+    ensures reasons { IfOk result (λ v. AreReasons clauses.now v.items []) }
+    ensures bounded { IsBounded (marks_of marks.new) }
+    ensures long { length marks.new.stamps.items ≡ length marks.old.stamps.items }
+{
+    begin(marks, 0, trail.steps().len());
+    mark_reached(marks, trail, clauses, clauses[conflict as usize].lits())?;
+    let reasons = reasons_from(alloc, marks, trail, 0, conflict)?;
     Ok(reasons)
 }

@@ -118,6 +118,17 @@ fn hinted_of(values: &Assignment, hinted: &mut Hinted) -> Option<usize>
     None
 }
 
+// A place for each of so many atoms, and room for their steps.
+fn step_room(alloc: Global, count: usize) -> Result<(Vec<u32>, Vec<Step>), AllocError>
+    ensures places { IfOk result (λ p. length p.0.items ≡ count) }
+    ensures steps { IfOk result (λ p. p.1.items ≡ []) }
+    ensures room { IfOk result (λ p. count ≤ vec_capacity p.1) }
+{
+    let places = vec![in alloc; 0; count]?;
+    let steps = Vec::with_capacity(alloc, count)?;
+    Ok((places, steps))
+}
+
 impl Trail {
     ghost use Rattle.gh_sat.specs.declared.trail.Step.{Step};
     ghost use Rattle.gh_base.specs.declared.atom.Lit.{Lit};
@@ -130,13 +141,16 @@ impl Trail {
     {
         let values = Assignment::new(alloc, sizes.terms, sizes.versions, sizes.defs)?;
         let count = values.sizes().count();
+        let (places, steps) = step_room(alloc, count)?;
+        let activity = Activity::new(alloc, count)?;
+        let hinted = Hinted::new(alloc, count)?;
         Ok(Trail {
             values,
-            places: vec![in alloc; 0; count]?,
-            steps: Vec::with_capacity(alloc, count)?,
+            places,
+            steps,
             cursor: 0,
-            activity: Activity::new(alloc, count)?,
-            hinted: Hinted::new(alloc, count)?,
+            activity,
+            hinted,
         })
     }
 
@@ -233,9 +247,7 @@ impl Trail {
         self.values.clear(step.lit.atom);
         self.activity.offer(place);
         self.hinted.set(place as usize);
-        if place < self.cursor {
-            self.cursor = place;
-        }
+        self.cursor = self.cursor.min(place);
     }
 
     /// Leaves the steps before a place.

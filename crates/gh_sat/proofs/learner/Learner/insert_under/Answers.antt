@@ -7,13 +7,13 @@ use Rattle.gh_sat.specs.Trail.{SearchState, cut, most_clauses}
 use Rattle.gh_sat.specs.Watch.{WasOpen, clauses_of}
 use Rattle.gh_sat.specs.Learn.{add_clause}
 use Rattle.gh_sat.specs.Whole.{IsUnderWay}
-use Rattle.gh_sat.specs.Rows.{rows_of}
+use Rattle.gh_sat.specs.Rows.{row_of, rows_of}
 use Rattle.gh_sat.proofs.WholeLemmas.{rows_push, rows_sized}
-use Rattle.std.proofs.Common.{◌++◌, ◌∷◌, []}
+use Rattle.std.proofs.Common.{◌++◌, ◌∷◌, [], refl}
 use Rattle.gh_sat.specs.contracts.learner.Learner.{the_view}
 use Rattle.gh_sat.proofs.ListLemmas.{le_along}
 use Rattle.gh_sat.proofs.WholeLemmas.{whole_add, whole_lists, cut_add_whole, cut_is, cut_none}
-use Rattle.gh_sat.proofs.learner.Learner.insert_under.Goals.{In_ok-push}
+use Rattle.gh_sat.proofs.learner.Learner.insert_under.Goals.{In_ok-append}
 use Rattle.gh_sat.proofs.learner.Learner.insert_under.Goals as goal
 
 pub invariant_of-self : goal.invariant_of-self
@@ -28,73 +28,60 @@ invariant_of-self c =
       i.5,
     )
 
-pub invariant_of-self-in_err-push : goal.invariant_of-self-in_err-push
-invariant_of-self-in_err-push c =
+pub invariant_of-self-in_err-append : goal.invariant_of-self-in_err-append
+invariant_of-self-in_err-append c =
     let i = c.self.invariant in
     let s = the_view c.self.inside in
+    let e = c.in_err-append.ensures in
     let h = whole_lists s c.self.inside.counts.items c.self.inside.looked c.self.inside.head c.self.inside.occurrences
     c.note.new.self c.self.inside.hints.items i.0 c.note.ensures.more in (
       subst (λ (cs : List (List Lit)). IsUnderWay (record s { clauses = cs }) c.self.inside.counts.items
-          c.self.inside.looked c.self.inside.head c.note.new.self c.next_row.new.hints.items)
-          (sym c.in_err-push.ensures.items)
+          c.self.inside.looked c.self.inside.head c.note.new.self c.append.new.hints.items) (sym e.same_clauses)
           (subst (λ (x : List Hint). IsUnderWay s c.self.inside.counts.items c.self.inside.looked c.self.inside.head
-          c.note.new.self x) (sym c.next_row.ensures.hints) h),
+          c.note.new.self x) (sym e.same_hints) h),
       i.1,
       i.2,
       i.3,
       i.4,
-      subst (λ (cs : List (List Lit)). c.next_row.new.rows.items ≡ rows_of s.sizes cs) (sym c.in_err-push.ensures.items)
-          (c.next_row.ensures.rows ∙ i.5),
-    )
-
-pub invariant_of-self-in_err-row : goal.invariant_of-self-in_err-row
-invariant_of-self-in_err-row c =
-    let i = c.self.invariant in (
-      subst (λ (x : List Hint). IsUnderWay (the_view c.self.inside) c.self.inside.counts.items c.self.inside.looked
-          c.self.inside.head c.note.new.self x) (sym c.next_row.ensures.hints)
-          (whole_lists (the_view c.self.inside) c.self.inside.counts.items c.self.inside.looked c.self.inside.head
-          c.self.inside.occurrences c.note.new.self c.self.inside.hints.items i.0 c.note.ensures.more),
-      i.1,
-      i.2,
-      i.3,
-      i.4,
-      c.next_row.ensures.rows ∙ i.5,
+      subst (λ (cs : List (List Lit)). c.append.new.rows.items ≡ rows_of s.sizes cs) (sym e.same_clauses)
+          (e.same_rows ∙ i.5),
     )
 
 -- the number stands in the lists of the clause's literals
-listed_is : (c : In_ok-push) → (m : Lit) → Contains c.args.clause m
+listed_is : (c : In_ok-append) → (m : Lit) → Contains c.args.clause m
     → Contains (clauses_of (the_view c.self.inside).sizes c.note.new.self m) (length (the_view c.self.inside).clauses)
 listed_is c m there =
     let s = the_view c.self.inside in
     let number : c.len-number.result ≡ length s.clauses = omega arith in
     subst (λ n. Contains (clauses_of s.sizes c.note.new.self m) n) number
-    (subst (λ (z : Sizes). Contains (clauses_of z c.note.new.self m) c.len-number.result) c.sizes.ensures.sizes
+    (subst (λ (z : Sizes). Contains (clauses_of z c.note.new.self m) c.len-number.result) c.sizes-sizes.ensures.sizes
     (c.in_ok-note.ensures.listed m (subst (λ (l : List Lit). Contains l m) (sym c.lits.ensures) there)))
 
 -- nothing else changes by that
-noted : (c : In_ok-push) → IsUnderWay (the_view c.self.inside) c.self.inside.counts.items c.self.inside.looked
+noted : (c : In_ok-append) → IsUnderWay (the_view c.self.inside) c.self.inside.counts.items c.self.inside.looked
     c.self.inside.head c.note.new.self c.self.inside.hints.items
 noted c =
     whole_lists (the_view c.self.inside) c.self.inside.counts.items c.self.inside.looked c.self.inside.head
     c.self.inside.occurrences c.note.new.self c.self.inside.hints.items c.self.invariant.0 c.note.ensures.more
 
 -- the rows are those of the clauses
-rows_are : (c : In_ok-push) → c.next_row.new.rows.items ++ c.in_ok-row.row ∷ []
-    ≡ rows_of (the_view c.self.inside).sizes c.push.new.self.items
+rows_are : (c : In_ok-append)
+    → c.append.new.rows.items ≡ rows_of (the_view c.self.inside).sizes c.append.new.clauses.items
 rows_are c =
     let s = the_view c.self.inside in
-    let rows = c.next_row.new.rows.items in
-    subst (λ (cs : List (List Lit)). rows ++ c.in_ok-row.row ∷ [] ≡ rows_of s.sizes cs)
-    (sym c.in_ok-push.ensures.items)
-    (rows_push s.sizes c.sizes-2.result s.clauses rows c.args.clause c.in_ok-row.row
-    (c.next_row.ensures.rows ∙ c.self.invariant.5) c.in_ok-row.ensures.row c.sizes-2.ensures.sizes)
+    let e = c.in_ok-append.ensures in
+    let rows = c.self.inside.rows.items in
+    let row = row_of c.sizes-sizes.result c.args.clause in
+    e.rows ∙ subst (λ (cs : List (List Lit)). rows ++ row ∷ [] ≡ rows_of s.sizes cs) (sym e.clauses)
+    (rows_push s.sizes c.sizes-sizes.result s.clauses rows c.args.clause row c.self.invariant.5 refl
+    c.sizes-sizes.ensures.sizes)
 
 pub invariant_of-self-2 : goal.invariant_of-self-2
 invariant_of-self-2 c =
     let i = c.self.invariant in
     let s = the_view c.self.inside in
     let e = c.cut_to-point.ensures in
-    let d = (goal.at.invariant_of-self-2 c).In_ok-push in
+    let d = (goal.at.invariant_of-self-2 c).In_ok-append in
     let h = noted d in
     let range : AreInRange s.sizes c.args.clause =
     subst (λ (t : SearchState). AreInRange t.sizes c.args.clause) (sym c.self.view_is) c.requires.range in
@@ -108,32 +95,31 @@ invariant_of-self-2 c =
       cut_add_whole s c.cut_to-point.new.trail.sizes c.cut_to-point.new.trail.steps c.cut_to-point.new.starts.items
           c.self.inside.counts.items c.cut_to-point.new.counts.items c.self.inside.looked c.self.inside.head
           c.cut_to-point.result.count c.cut_to-point.result.start c.args.level c.note.new.self c.self.inside.hints.items
-          c.push_reserved-2.new.self.items c.args.clause c.default.result c.push.new.self.items h e.start e.count
-          e.sizes e.steps e.starts e.counts c.in_ok-push.ensures.items
-          (c.push_reserved-2.ensures.items
-          ∙ ap (λ (x : List Hint). x ++ c.default.result ∷ []) c.next_row.ensures.hints) range was listed few,
+          c.append.new.hints.items c.args.clause c.in_ok-append.ensures.hints.0 c.append.new.clauses.items h e.start
+          e.count e.sizes e.steps e.starts e.counts c.in_ok-append.ensures.clauses
+          c.in_ok-append.ensures.hints.1 range was listed few,
       le_along count (sym e.starts_room) i.1,
       le_along count (sym e.counts_room) i.2,
       i.3,
       i.4 ∙ count,
-      rows_sized s.sizes c.cut_to-point.new.trail.sizes c.push.new.self.items c.push_reserved.new.self.items
-          (c.push_reserved.ensures.items ∙ rows_are d) e.sizes,
+      rows_sized s.sizes c.cut_to-point.new.trail.sizes c.append.new.clauses.items c.append.new.rows.items
+          (rows_are d) e.sizes,
     )
 
 pub returns-clause-ok : goal.returns-clause-ok
 returns-clause-ok c =
     let s = the_view c.self.inside in
     let e = c.cut_to-point.ensures in
-    cut_is s c.cut_to-point.new.trail.sizes c.push.new.self.items c.cut_to-point.new.trail.steps
+    cut_is s c.cut_to-point.new.trail.sizes c.append.new.clauses.items c.cut_to-point.new.trail.steps
     c.cut_to-point.new.starts.items c.cut_to-point.result.start c.args.level e.start e.sizes e.steps e.starts
-    ∙ ap (λ (cs : List (List Lit)). record (cut s c.args.level) { clauses = cs }) c.in_ok-push.ensures.items
+    ∙ ap (λ (cs : List (List Lit)). record (cut s c.args.level) { clauses = cs }) c.in_ok-append.ensures.clauses
     ∙ ap (λ (t : SearchState). add_clause (cut t c.args.level) c.args.clause) c.self.view_is
 
 pub invariant_of-self-then-level-len : goal.invariant_of-self-then-level-len
 invariant_of-self-then-level-len c =
     let i = c.self.invariant in
     let s = the_view c.self.inside in
-    let d = (goal.at.invariant_of-self-then-level-len c).In_ok-push in
+    let d = (goal.at.invariant_of-self-then-level-len c).In_ok-append in
     let h = noted d in
     let range : AreInRange s.sizes c.args.clause =
     subst (λ (t : SearchState). AreInRange t.sizes c.args.clause) (sym c.self.view_is) c.requires.range in
@@ -143,27 +129,25 @@ invariant_of-self-then-level-len c =
     (subst (λ (t : SearchState). WasOpen (cut t c.args.level).trail (cut t c.args.level).starts c.args.clause)
     (sym c.self.view_is) c.requires.was_open) in
     let few : length s.clauses < most_clauses = omega (arith, c.if-len-ge-MOST_CLAUSES.false) in
-    let listed = listed_is d in
-    let hints : c.push_reserved-2.new.self.items ≡ c.self.inside.hints.items ++ c.default.result ∷ [] =
-    c.push_reserved-2.ensures.items ∙ ap (λ (x : List Hint). x ++ c.default.result ∷ []) c.next_row.ensures.hints in (
+    let listed = listed_is d in (
       subst (λ (cs : List (List Lit)). IsUnderWay (record s { clauses = cs }) c.self.inside.counts.items
-          c.self.inside.looked c.self.inside.head c.note.new.self c.push_reserved-2.new.self.items)
-          (sym c.in_ok-push.ensures.items)
+          c.self.inside.looked c.self.inside.head c.note.new.self c.append.new.hints.items)
+          (sym c.in_ok-append.ensures.clauses)
           (subst (λ (x : List Hint). IsUnderWay (add_clause s c.args.clause) c.self.inside.counts.items
-          c.self.inside.looked c.self.inside.head c.note.new.self x) (sym hints)
+          c.self.inside.looked c.self.inside.head c.note.new.self x) (sym c.in_ok-append.ensures.hints.1)
           (whole_add s c.self.inside.counts.items c.self.inside.looked c.self.inside.head c.note.new.self
-          c.self.inside.hints.items c.args.clause c.default.result h range was listed few)),
+          c.self.inside.hints.items c.args.clause c.in_ok-append.ensures.hints.0 h range was listed few)),
       i.1,
       i.2,
       i.3,
       i.4,
-      c.push_reserved.ensures.items ∙ rows_are d,
+      rows_are d,
     )
 
 pub returns-then-level-len-clause-ok : goal.returns-then-level-len-clause-ok
 returns-then-level-len-clause-ok c =
     let s = the_view c.self.inside in
-    ap (λ (cs : List (List Lit)). record s { clauses = cs }) c.in_ok-push.ensures.items
+    ap (λ (cs : List (List Lit)). record s { clauses = cs }) c.in_ok-append.ensures.clauses
     ∙ ap (λ (t : SearchState). add_clause t c.args.clause)
     (cut_none s c.args.level (omega (arith, c.if-level-len.true)))
     ∙ ap (λ (t : SearchState). add_clause (cut t c.args.level) c.args.clause) c.self.view_is

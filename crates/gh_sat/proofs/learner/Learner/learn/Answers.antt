@@ -1,5 +1,8 @@
 use Rattle.std.proofs.Common.{◌≡◌, ◌<◌, ◌≤◌, ◌+◌, ◌-◌, ◌∙◌, ◌++◌, ◌∷◌, [], ℕ, List, arith, sym, ap, subst, refl, get_or}
 use Rattle.std.proofs.Common.{length, drop, Some, None, inl, inr, Contains}
+use Rattle.std.specs.Prelude.{IfOk, OnErr}
+use Rattle.std.proofs.lemmas.Result.{IfOk-weaker}
+use Rattle.gh_sat.specs.declared.learner.Learnt.{Learnt}
 use Rattle.std.specs.Prelude.{slice_get}
 use Rattle.std.proofs.lemmas.Bool.{cases_lt}
 use Rattle.std.proofs.lemmas.Option.{get_or_from_slice_get, slice_get_read}
@@ -9,6 +12,7 @@ use Rattle.gh_sat.specs.declared.trail.Step.{Step}
 use Rattle.gh_sat.specs.Trail.{Line, SearchState, IsSound, IsFalseIn}
 use Rattle.gh_sat.specs.Watch.{WasOpen}
 use Rattle.gh_sat.specs.Learn.{Marking, HaveReasons, IsConflictAt, IsLearnt, AreReasons, marks_of, reasons_of, IsLastMarked}
+use Rattle.gh_sat.specs.Learn.{add_clause}
 use Rattle.gh_sat.specs.contracts.learner.Learner.{the_view}
 use Rattle.gh_base.proofs.ListLemmas.{get_within}
 use Rattle.gh_sat.proofs.ListLemmas.{le_along}
@@ -16,7 +20,7 @@ use Rattle.gh_sat.proofs.StatusLemmas.{nothing}
 use Rattle.gh_sat.proofs.LearnLemmas.{have_reasons, learnt, was_open, false_in_range}
 use Rattle.gh_sat.proofs.ReasonLemmas.{learnt_shows}
 use Rattle.gh_sat.proofs.learner.Learner.learn.Goals as goal
-use Rattle.gh_sat.proofs.learner.Learner.learn.Goals.{After-lits, In_ok-place, In_ok-clause, In_ok-added}
+use Rattle.gh_sat.proofs.learner.Learner.learn.Goals.{After-lits, In_ok-place, In_ok-learnt}
 
 -- what is known once the present level's start and the clause are read
 record Begun (s : SearchState) (k start : ℕ) (lits : List Lit) : Type 0 where
@@ -150,16 +154,21 @@ remains c =
     c.in_ok-place.place c.as_slice.ensures.value c.in_ok-place.ensures.point
 
 -- the clause is learnt
-lesson : (c : In_ok-clause) → Begun (the_view c.self.inside) c.args.conflict c.index.result.now c.lits.result.now
+lesson : (c : In_ok-learnt) → Begun (the_view c.self.inside) c.args.conflict c.index.result.now c.lits.result.now
     → IsLastMarked (the_view c.self.inside).clauses (the_view c.self.inside).trail c.lits.result.now
     (marks_of c.resolve.new.marks) c.in_ok-place.place
-    → IsLearnt (the_view c.self.inside) c.args.conflict c.in_ok-clause.clause (marks_of c.resolve.new.marks).level
-    c.negated-unit.result
+    → IsLearnt (the_view c.self.inside) c.args.conflict c.in_ok-learnt.learnt.clause c.in_ok-learnt.learnt.level
+    c.in_ok-learnt.learnt.unit
 lesson c b p =
-    made (the_view c.self.inside) (marks_of c.resolve.new.marks) c.args.conflict c.index.result.now c.in_ok-place.place
-    c.lits.result.now c.steps-2.result.now c.negated-unit.result c.in_ok-clause.clause c.self.invariant.0.sound b
-    (c.in_ok-place.ensures.start ∙ c.begin.ensures.start) p c.steps-2.ensures.steps c.negated-unit.ensures
-    (c.in_ok-clause.ensures ∙ c.as_slice-2.ensures.value ∙ c.in_ok-push.ensures.items)
+    let s = the_view c.self.inside in
+    let m = marks_of c.resolve.new.marks in
+    let clause = c.in_ok-learnt.learnt.clause in
+    let e = c.in_ok-learnt.ensures in
+    subst (λ (n : ℕ). IsLearnt s c.args.conflict clause n c.in_ok-learnt.learnt.unit) (sym e.level)
+    (subst (λ (u : Lit). IsLearnt s c.args.conflict clause m.level u) (sym e.unit)
+    (made s m c.args.conflict c.index.result.now c.in_ok-place.place c.lits.result.now c.steps-2.result.now
+    c.negated-unit.result clause c.self.invariant.0.sound b (c.in_ok-place.ensures.start ∙ c.begin.ensures.start) p
+    c.steps-2.ensures.steps c.negated-unit.ensures (e.clause ∙ c.in_ok-push.ensures.items)))
 
 pub bounds-steps-place : goal.bounds-steps-place
 bounds-steps-place c =
@@ -168,47 +177,78 @@ bounds-steps-place c =
     let w : c.in_ok-place.place < length trail = get_within trail c.in_ok-place.place p.step p.at in
     subst (λ (t : List Step). c.in_ok-place.place < length t) (sym c.steps-2.ensures.steps) w
 
--- so is its copy
-copied : (c : In_ok-added) → IsLearnt (the_view c.self.inside) c.args.conflict c.in_ok-clause.clause
-    (marks_of c.resolve.new.marks).level c.negated-unit.result
-    → IsLearnt (the_view c.self.inside) c.args.conflict c.in_ok-added.added
-    (marks_of c.resolve.new.marks).level c.negated-unit.result
-copied c r =
+pub learnt_of-requires-clause-within : goal.learnt_of-requires-clause-within
+learnt_of-requires-clause-within c =
+    let p = remains (goal.at.learnt_of-requires-clause-within c).In_ok-place in
+    subst (λ (t : Line). c.in_ok-place.place < length t.steps) (sym c.bump_marked.ensures.same)
+    (get_within c.self.inside.trail.steps c.in_ok-place.place p.step p.at)
+
+pub learnt_of-requires-clause-long : goal.learnt_of-requires-clause-long
+learnt_of-requires-clause-long c =
+    let i = c.self.invariant in
+    let e = c.in_ok-place.ensures.long ∙ c.begin.ensures.long ∙ i.4 in
+    subst (λ (t : Line). length t.steps ≤ length c.resolve.new.marks.stamps.items) (sym c.bump_marked.ensures.same)
+    (le_along refl (sym e) i.0.sound.steps.few)
+
+pub keep-requires-clause-range : goal.keep-requires-clause-range
+keep-requires-clause-range c =
+    let d = goal.at.keep-requires-clause-range c in
+    let clause = c.in_ok-learnt.learnt.clause in
+    let r = lesson d.In_ok-learnt (known d.After-lits) (remains d.In_ok-place) in
+    subst (λ (t : Line). AreInRange t.sizes clause) (sym c.bump_marked.ensures.same)
+    (false_in_range (the_view c.self.inside) clause c.self.invariant.0.sound r.is_false)
+
+pub keep-requires-clause-was_open : goal.keep-requires-clause-was_open
+keep-requires-clause-was_open c =
+    let d = goal.at.keep-requires-clause-was_open c in
     let s = the_view c.self.inside in
-    let level = (marks_of c.resolve.new.marks).level in
-    subst (λ (x : List Lit). IsLearnt s c.args.conflict x level c.negated-unit.result) (sym c.in_ok-added.ensures) r
-
-pub insert-requires-clause-range : goal.insert-requires-clause-range
-insert-requires-clause-range c =
-    let d = goal.at.insert-requires-clause-range c in
-    let r = copied d.In_ok-added (lesson d.In_ok-clause (known d.After-lits) (remains d.In_ok-place)) in
-    subst (λ (t : Line). AreInRange t.sizes c.in_ok-added.added) (sym c.bump_marked.ensures.same)
-    (false_in_range (the_view c.self.inside) c.in_ok-added.added c.self.invariant.0.sound r.is_false)
-
-pub insert-requires-clause-was_open : goal.insert-requires-clause-was_open
-insert-requires-clause-was_open c =
-    let d = goal.at.insert-requires-clause-was_open c in
-    let r = copied d.In_ok-added (lesson d.In_ok-clause (known d.After-lits) (remains d.In_ok-place)) in
+    let clause = c.in_ok-learnt.learnt.clause in
+    let r = lesson d.In_ok-learnt (known d.After-lits) (remains d.In_ok-place) in
     let x = r.present in
-    subst (λ (t : Line). WasOpen t.steps (the_view c.self.inside).starts c.in_ok-added.added)
-    (sym c.bump_marked.ensures.same)
-    (was_open (the_view c.self.inside) c.in_ok-added.added c.negated-unit.result r.place x.0 c.self.invariant.0.sound
-    r.there x.1 x.2 x.3)
+    subst (λ (t : Line). WasOpen t.steps s.starts clause) (sym c.bump_marked.ensures.same)
+    (was_open s clause c.in_ok-learnt.learnt.unit r.place x.0 c.self.invariant.0.sound r.there x.1 x.2 x.3)
 
 pub returns-clause-learnt : goal.returns-clause-learnt
 returns-clause-learnt c =
     let d = goal.at.returns-clause-learnt c in
-    let level = (marks_of c.resolve.new.marks).level in
-    subst (λ (t : SearchState). IsLearnt t c.args.conflict c.in_ok-clause.clause level c.negated-unit.result)
-    c.self.view_is (lesson d.In_ok-clause (known d.After-lits) (remains d.In_ok-place))
+    let learns : SearchState → Learnt → Type 0 = λ t l. IsLearnt t c.args.conflict l.clause l.level l.unit in
+    let is : learns c.args.self.now c.in_ok-learnt.learnt =
+    subst (λ (t : SearchState). learns t c.in_ok-learnt.learnt) c.self.view_is
+    (lesson d.In_ok-learnt (known d.After-lits) (remains d.In_ok-place)) in
+    IfOk-weaker c.keep.result (λ l. l ≡ c.in_ok-learnt.learnt) (learns c.args.self.now)
+    (λ l e. subst (learns c.args.self.now) (sym e) is) c.keep.ensures.same
+
+pub returns-clause-added : goal.returns-clause-added
+returns-clause-added c =
+    let s = the_view c.self.inside in
+    subst (λ (t : SearchState). IfOk c.keep.result (λ l. c.keep.new.self ≡ add_clause t l.clause)) c.self.view_is
+    (subst (λ (t : Line). IfOk c.keep.result
+    (λ l. c.keep.new.self ≡ add_clause (record s { sizes = t.sizes; trail = t.steps }) l.clause))
+    c.bump_marked.ensures.same c.keep.ensures.added)
+
+pub returns-clause-err : goal.returns-clause-err
+returns-clause-err c =
+    let s = the_view c.self.inside in
+    subst (λ (t : SearchState). OnErr c.keep.result (c.keep.new.self ≡ t)) c.self.view_is
+    (subst (λ (t : Line). OnErr c.keep.result (c.keep.new.self ≡ record s { sizes = t.sizes; trail = t.steps }))
+    c.bump_marked.ensures.same c.keep.ensures.err)
 
 pub returns-clause-reasons : goal.returns-clause-reasons
 returns-clause-reasons c =
     let d = goal.at.returns-clause-reasons c in
-    let reasons = c.in_ok-reasons.reasons.items in
-    let r = made_reasons (the_view c.self.inside) (marks_of c.resolve.new.marks) c.args.conflict c.index.result.now
-    c.in_ok-place.place c.lits.result.now c.steps-2.result.now c.negated-unit.result c.in_ok-clause.clause reasons
-    c.self.invariant.0.sound (known d.After-lits) (c.in_ok-place.ensures.start ∙ c.begin.ensures.start)
-    (remains d.In_ok-place) c.steps-2.ensures.steps c.negated-unit.ensures
-    (c.in_ok-clause.ensures ∙ c.as_slice-2.ensures.value ∙ c.in_ok-push.ensures.items) c.in_ok-reasons.ensures in
-    subst (λ (t : SearchState). AreReasons t.clauses reasons c.in_ok-clause.clause) c.self.view_is r
+    let s = the_view c.self.inside in
+    let m = marks_of c.resolve.new.marks in
+    let place = c.in_ok-place.place in
+    let learnt = c.in_ok-learnt.learnt in
+    let e = c.in_ok-learnt.ensures in
+    let reasons = subst (λ (t : Line). learnt.reasons.items
+    ≡ reasons_of m.round (drop (place + 1) m.stamps) (drop (place + 1) t.steps) ++ c.args.conflict ∷ [])
+    c.bump_marked.ensures.same e.reasons in
+    let r = made_reasons s m c.args.conflict c.index.result.now place c.lits.result.now c.steps-2.result.now
+    c.negated-unit.result learnt.clause learnt.reasons.items c.self.invariant.0.sound (known d.After-lits)
+    (c.in_ok-place.ensures.start ∙ c.begin.ensures.start) (remains d.In_ok-place) c.steps-2.ensures.steps
+    c.negated-unit.ensures (e.clause ∙ c.in_ok-push.ensures.items) reasons in
+    let shows : Learnt → Type 0 = λ l. AreReasons c.args.self.now.clauses l.reasons.items l.clause in
+    let is : shows learnt =
+    subst (λ (t : SearchState). AreReasons t.clauses learnt.reasons.items learnt.clause) c.self.view_is r in
+    IfOk-weaker c.keep.result (λ l. l ≡ learnt) shows (λ l e. subst shows (sym e) is) c.keep.ensures.same

@@ -1,43 +1,35 @@
-use Rattle.std.proofs.Common.{◌≡◌, ◌≤◌, [], ℕ, List, length, get_or, Some, arith, sym, subst, ap, ◌∙◌}
-use Rattle.std.specs.Prelude.{slice_get}
-use Rattle.std.proofs.lemmas.Option.{slice_get_read}
+use Rattle.std.proofs.Common.{◌≡◌, ◌∙◌, [], ℕ, List, refl, sym, subst, ap}
 use Rattle.gh_base.specs.declared.atom.Lit.{Lit}
-use Rattle.gh_sat.specs.Trail.{SearchState, IsFalseIn}
-use Rattle.gh_sat.specs.Learn.{IsConflictAt, AreReasons, ResolvedFrom, marks_of}
+use Rattle.gh_sat.specs.Trail.{SearchState, IsSound}
+use Rattle.gh_sat.specs.Status.{IsFalseClause}
+use Rattle.gh_sat.specs.Learn.{IsConflictAt, AreReasons}
 use Rattle.gh_sat.specs.contracts.learner.Learner.{the_view}
-use Rattle.gh_base.proofs.ListLemmas.{get_within}
-use Rattle.gh_sat.proofs.ReasonLemmas.{refutation_shows}
+use Rattle.gh_sat.proofs.ListLemmas.{le_along}
 use Rattle.gh_sat.proofs.learner.Learner.refutation.Goals as goal
 
--- the false clause, as the code reads it
-read_false : (s now : SearchState) (k : ℕ) (c lits : List Lit) → s ≡ now → IsConflictAt now k → c ≡ get_or s.clauses k c
-    → lits ≡ c → (slice_get s.clauses k ≡ Some lits) × IsFalseIn s.trail lits
-read_false s now k c lits is conflict read same =
-    let here : IsConflictAt s k = subst (λ (t : SearchState). IsConflictAt t k) (sym is) conflict in
-    let there : slice_get s.clauses k ≡ Some c =
-    slice_get_read s.clauses (length s.clauses) k c (λ _. length s.clauses) (get_within s.clauses k here.clause here.at)
-    read in
-    let one : here.clause ≡ lits = let t = here.at in cc in
-    (there ∙ ap Some (sym same), subst (IsFalseIn s.trail) one here.is_false)
+pub all_reasons-requires-clause-sound : goal.all_reasons-requires-clause-sound
+all_reasons-requires-clause-sound c =
+    let s = the_view c.self.inside in
+    let none : s.starts ≡ [] = ap (λ (t : SearchState). t.starts) c.self.view_is ∙ c.requires.level in
+    subst (λ (cs : List (List Lit)). IsSound (record { sizes = s.sizes; clauses = cs; trail = s.trail; starts = [] }))
+    (sym c.as_slice-clauses.ensures.value)
+    (subst (λ (ss : List ℕ). IsSound (record s { starts = ss })) none c.self.invariant.0.sound)
 
-pub mark_reached-requires-clause-all_false : goal.mark_reached-requires-clause-all_false
-mark_reached-requires-clause-all_false c =
-    (read_false (the_view c.self.inside) c.args.self.now c.args.conflict c.index.result.now c.lits.result.now
-    c.self.view_is c.requires.conflict c.index.ensures c.lits.ensures).1
+pub all_reasons-requires-clause-conflict : goal.all_reasons-requires-clause-conflict
+all_reasons-requires-clause-conflict c =
+    let s = the_view c.self.inside in
+    let here : IsConflictAt s c.args.conflict =
+    subst (λ (t : SearchState). IsConflictAt t c.args.conflict) (sym c.self.view_is) c.requires.conflict in
+    subst (λ (cs : List (List Lit)). IsFalseClause cs s.trail c.args.conflict) (sym c.as_slice-clauses.ensures.value)
+    (here.clause, here.at, here.is_false)
+
+pub all_reasons-requires-clause-long : goal.all_reasons-requires-clause-long
+all_reasons-requires-clause-long c =
+    let i = c.self.invariant in le_along refl (sym i.4) i.0.sound.steps.few
 
 pub returns-clause-reasons : goal.returns-clause-reasons
 returns-clause-reasons c =
-    let s = the_view c.self.inside in
-    let i = c.self.invariant in
-    let m = marks_of c.mark_reached.new.marks in
-    let k = c.args.conflict in
-    let lits = c.lits.result.now in
-    let f = read_false s c.args.self.now k c.index.result.now lits c.self.view_is c.requires.conflict c.index.ensures
-    c.lits.ensures in
-    let res = subst (λ (cs : List (List Lit)). ResolvedFrom cs s.trail m 0) c.as_slice.ensures.value
-    c.in_ok-mark_reached.ensures.resolved in
-    let long : length s.trail ≤ length m.stamps =
-    omega (arith, i.0.sound.steps.few, i.4, c.begin.ensures.long, c.in_ok-mark_reached.ensures.long) in
-    subst (λ (t : SearchState). AreReasons t.clauses c.in_ok-reasons.reasons.items []) c.self.view_is
-    (subst (λ (ks : List ℕ). AreReasons s.clauses ks []) (sym c.in_ok-reasons.ensures)
-    (refutation_shows s lits k m i.0.sound f.0 f.1 c.in_ok-mark_reached.ensures.all res long))
+    let v = c.in_ok-reasons.reasons.items in
+    subst (λ (t : SearchState). AreReasons t.clauses v []) c.self.view_is
+    (subst (λ (cs : List (List Lit)). AreReasons cs v []) c.as_slice-clauses.ensures.value
+    c.in_ok-reasons.ensures.reasons)

@@ -1,4 +1,4 @@
-use Rattle.std.proofs.Common.{◌≡◌, ◌∙◌, ℕ, Some, arith, ap, [], refl, length}
+use Rattle.std.proofs.Common.{◌≡◌, ◌∙◌, ℕ, Some, arith, ap, [], refl}
 use Rattle.std.specs.Prelude.{slice_get}
 use Rattle.gh_base.specs.Assignments.{Partial}
 use Rattle.gh_base.specs.Atoms.{count_of}
@@ -12,11 +12,11 @@ invariant_of-result c =
     let p : Partial = c.in_ok-values.values in
     let valid = c.sizes.ensures.valid in
     let count : c.count-count.result ≡ count_of p.sizes = c.count-count.ensures ∙ ap count_of c.sizes.ensures.sizes in
-    let long : length c.in_ok-vec.field-0.items ≡ c.count-count.result = omega (arith, c.in_ok-vec.ensures.len) in (
-      rw c.in_ok-with_capacity.ensures.items (values_none p c.in_ok-values.ensures.none valid.all valid.room),
-      rw c.in_ok-with_capacity.ensures.items (λ (i : ℕ) (x : Step) (at : slice_get [] i ≡ Some x). cc),
+    let e = c.in_ok-places.ensures in (
+      rw e.steps (values_none p c.in_ok-values.ensures.none valid.all valid.room),
+      rw e.steps (λ (i : ℕ) (x : Step) (at : slice_get [] i ≡ Some x). cc),
       λ a lt. absurd (omega arith),
       zero_le (count_of p.sizes),
-      long ∙ count,
-      le_along count refl c.in_ok-with_capacity.ensures.capacity,
+      e.places ∙ count,
+      le_along count refl e.room,
     )

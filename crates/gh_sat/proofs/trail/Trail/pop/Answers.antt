@@ -1,11 +1,11 @@
-use Rattle.std.proofs.Common.{◌≡◌, ◌≤◌, ◌∙◌, ◌++◌, ◌∷◌, [], ℕ, List, None, arith, ap, sym, subst, refl, length}
+use Rattle.std.proofs.Common.{◌≡◌, ◌≤◌, ◌∙◌, ◌++◌, ◌∷◌, [], ℕ, List, None, arith, ap, sym, subst, refl, length, min}
 use Rattle.std.specs.Prelude.{vec_capacity}
 use Rattle.gh_base.specs.Assignments.{Partial, with_value}
 use Rattle.gh_base.specs.Atoms.{count_of, number_of}
 use Rattle.gh_sat.specs.declared.trail.Step.{Step}
-use Rattle.gh_sat.specs.Trail.{AreValues, ArePlaces, IsPassed, turned}
+use Rattle.gh_sat.specs.Trail.{Line, AreValues, ArePlaces, IsPassed, turned}
 use Rattle.gh_base.proofs.ListLemmas.{get_front}
-use Rattle.gh_sat.proofs.ListLemmas.{le_along, le_le, le_same}
+use Rattle.gh_sat.proofs.ListLemmas.{le_along, le_le}
 use Rattle.gh_sat.proofs.TrailLemmas.{values_less, passed_unset}
 use Rattle.gh_sat.proofs.trail.Trail.pop.Goals.{After-turned-place}
 use Rattle.gh_sat.proofs.trail.Trail.pop.Goals as goal
@@ -36,22 +36,25 @@ place_is c =
     c.turned-place.ensures.turned ∙ ap (turned c.sizes-sizes.result) c.number.ensures.number
     ∙ ap (λ z. turned z (number_of z c.in-Some.step.lit.atom)) c.sizes-sizes.ensures.sizes
 
-pub invariant_of-self-then-place-self : goal.invariant_of-self-then-place-self
-invariant_of-self-then-place-self c =
+pub invariant_of-self-2 : goal.invariant_of-self-2
+invariant_of-self-2 c =
     let s = c.self.inside in
     let i = c.self.invariant in
-    let place = place_is (goal.at.invariant_of-self-then-place-self c).After-turned-place in
-    less s.values c.clear.new.self s.places.items s.steps.items c.pop.new.self.items s.cursor c.turned-place.result
+    let place = place_is (goal.at.invariant_of-self-2 c).After-turned-place in
+    let least : c.min-self-inside.result ≡ min s.cursor c.turned-place.result = c.min-self-inside.ensures in
+    less s.values c.clear.new.self s.places.items s.steps.items c.pop.new.self.items s.cursor c.min-self-inside.result
     (vec_capacity s.steps) (vec_capacity c.pop.new.self) c.in-Some.step
     i.0 i.1 i.2 i.3 i.4 i.5 c.in-Some.ensures.items c.clear.ensures.table c.pop.ensures.capacity (omega arith)
-    (le_along refl place (le_same c.turned-place.result))
+    (le_along refl place (omega (arith, least)))
 
-pub invariant_of-self-else-place-self : goal.invariant_of-self-else-place-self
-invariant_of-self-else-place-self c =
+pub returns : goal.returns
+returns c =
     let s = c.self.inside in
-    let i = c.self.invariant in
-    let place = place_is (goal.at.invariant_of-self-else-place-self c).After-turned-place in
-    less s.values c.clear.new.self s.places.items s.steps.items c.pop.new.self.items s.cursor s.cursor
-    (vec_capacity s.steps) (vec_capacity c.pop.new.self) c.in-Some.step
-    i.0 i.1 i.2 i.3 i.4 i.5 c.in-Some.ensures.items c.clear.ensures.table c.pop.ensures.capacity (le_same s.cursor)
-    (le_along refl place c.if-place-self.false)
+    let x = c.in-Some.step in (
+      x,
+      sym c.self.view_is
+          ∙ ap (λ (steps : List Step). let t : Line = record { sizes = s.values.sizes; steps = steps } in t)
+          c.in-Some.ensures.items
+          ∙ ap (λ (p : Partial). let t : Line = record { sizes = p.sizes; steps = c.pop.new.self.items ++ x ∷ [] } in t)
+          (sym c.clear.ensures.table),
+    )

@@ -10,8 +10,8 @@ use Rattle.std.proofs.Common.{subst}
 use Rattle.gh_sat.specs.Trail.{SearchState, most_clauses}
 use Rattle.gh_sat.specs.Learn.{add_clause}
 use Rattle.gh_base.proofs.ListLemmas.{get_within}
-use Rattle.gh_sat.proofs.learner.Learner.new.Goals.{In_default}
-use Rattle.gh_sat.proofs.learner.Learner.new.Goals as goal
+use Rattle.gh_sat.proofs.learner.Learner.insert_all.Goals.{In_default}
+use Rattle.gh_sat.proofs.learner.Learner.insert_all.Goals as goal
 
 none_past : {X : Type 0} (xs : List X) (i : ℕ) → slice_get xs i ≡ None → length xs ≤ i
 none_past [] i e = omega arith
@@ -53,17 +53,17 @@ returns-clause-over c =
 pub returns-clause-few : goal.returns-clause-few
 returns-clause-few c =
     let all = all_taken (goal.at.returns-clause-few c).In_default in
-    let is : c.loop-clause.learner.clauses ≡ c.args.ground.now.clauses =
+    let is : c.loop-clause.self.clauses ≡ c.args.ground.now.clauses =
     ap (λ (t : SearchState). t.clauses) c.loop-clause.invariant.so_far ∙ all in
     subst (λ (x : List (List Lit)). length x ≤ most_clauses) is c.loop-clause.invariant.few
 
 pub insert-requires-clause-range : goal.insert-requires-clause-range
 insert-requires-clause-range c =
-    let sized : c.loop-clause.learner.sizes ≡ c.args.ground.now.sizes =
+    let sized : c.loop-clause.self.sizes ≡ c.args.ground.now.sizes =
     ap (λ (t : SearchState). t.sizes) c.loop-clause.invariant.so_far in
-    let range : AreInRange c.loop-clause.learner.sizes c.in-Some.clause.now =
+    let range : AreInRange c.loop-clause.self.sizes c.in-Some.clause.now =
     subst (λ (z : Sizes). AreInRange z c.in-Some.clause.now) (sym sized) c.in-Some.ensures.in_range in
-    subst (λ (l : List Lit). AreInRange c.loop-clause.learner.sizes l) (sym c.in_ok-copy.ensures) range
+    subst (λ (l : List Lit). AreInRange c.loop-clause.self.sizes l) (sym c.in_ok-copy.ensures) range
 
 pub loop-clause-smaller : goal.loop-clause-smaller
 loop-clause-smaller c =
