@@ -8,7 +8,7 @@ use Rattle.gh_ast.specs.Plain.{Formula, Procedure}
 use Rattle.gh_ast.specs.Programs.{Name, results_of}
 use Rattle.gh_path.specs.Graphs.{Loop}
 use Rattle.gh_path.specs.Terms.{Terms, walked, invariant_walked, moved_on, rebound, renewed, some_assigns, bound_inside}
-use Rattle.gh_symb.specs.Symbolic.{Under, under, each_under, parts, call_parts, needs_under, entered_under, ended_under, accessed, assumed, written, made, freed, access, sub, whole}
+use Rattle.gh_symb.specs.Symbolic.{Under, under, each_under, parts, needs_under, entered_under, ended_under, accessed, assumed, written, made, freed, access, sub, whole}
 use Rattle.gh_symb.specs.Encodings.{Each, IsUnder}
 use Rattle.gh_symb.specs.Fitting.{EncodesUnder, EncodesStep, EncodesCheck, IsTermOf, JoinsParts, AsksWhole}
 use Rattle.gh_symb.specs.Inside.{IsUnderInside}
@@ -75,16 +75,13 @@ loop_encoded xs l s r before after encoded first renew second joins =
     joins (under_bindings l.invariant s.bindings s.version) (under l.invariant (renewed (filter (some_assigns l.body) xs) (moved_on s))) first
     (subst (λ q. EncodesUnder after (under l.invariant q)) renew second)
 
-pub call_encoded : (p : Procedure) (ts : List ℕ) (s i r : Terms) (before : BoundAssertion) (after : Vec BoundAssertion Global) →
-    i ≡ rebound s (bound_inside p ts) → EncodesUnder before (under p.needs i) → r ≡ renewed (results_of p) (moved_on (walked p.needs i)) → Each EncodesUnder after.items (each_under p.gives r) →
-    EncodesStep (step.Part before after) (call_parts (Some p) ts s)
-call_encoded p ts s i r before after enters first renew all = λ fits.
-    let inside = rebound s (bound_inside p ts) in
-    let at_end = each_under p.gives (renewed (results_of p) (moved_on (walked p.needs inside))) in
-    let ends : Each EncodesUnder after.items at_end =
-    subst (λ q. Each EncodesUnder after.items (each_under p.gives q)) (renew ∙ ap (λ q. renewed (results_of p) (moved_on (walked p.needs q))) enters) all in
-    let begins : EncodesUnder before (under p.needs inside) = subst (λ q. EncodesUnder before (under p.needs q)) enters first in
-    (under p.needs inside, at_end, begins fits.0, each_fits after.items at_end ends fits.1, refl)
+pub call_encoded : (p : Procedure) (i r : Terms) (before : BoundAssertion) (after : Vec BoundAssertion Global) →
+    EncodesUnder before (under p.needs i) → r ≡ moved_on (walked p.needs i) → Each EncodesUnder after.items (each_under p.gives (renewed (results_of p) r)) →
+    EncodesStep (step.Part before after) (parts (under p.needs i) (each_under p.gives (renewed (results_of p) (moved_on (walked p.needs i)))))
+call_encoded p i r before after first moves all = λ fits.
+    let at_end = each_under p.gives (renewed (results_of p) (moved_on (walked p.needs i))) in
+    let ends : Each EncodesUnder after.items at_end = subst (λ q. Each EncodesUnder after.items (each_under p.gives (renewed (results_of p) q))) moves all in
+    (under p.needs i, at_end, first fits.0, each_fits after.items at_end ends fits.1, refl)
 
 pub entry_encoded : (p : Procedure) (ts : List ℕ) (s i : Terms) (b : BoundAssertion) → i ≡ rebound s (bound_inside p ts) → EncodesUnder b (under p.needs i) → EncodesCheck (check.Sub b) (needs_under (Some p) ts s)
 entry_encoded p ts s i b enters first =

@@ -18,12 +18,13 @@ use Rattle.gh_symb.specs.Walked.{IsWalked}
 use Rattle.gh_symb.specs.Phases.{under_bindings, loop_done, loop_encoding, step_done, step_encoding, learned, both}
 use Rattle.gh_symb.specs.Steps.{EndsWith, IsCount}
 use Rattle.gh_symb.specs.Following.{met, known, first_uses, IsFollowed, Followed}
-use Rattle.gh_symb.specs.Reads.{LearnsTerms}
 use Rattle.gh_symb.specs.Contexts.{program_in, procedure_in}
-use Rattle.gh_symb.specs.Tables.{Pairs, bound_by}
+use Rattle.gh_symb.specs.Tables.{bound_by}
 use Rattle.gh_symb.specs.Walkers.{terms_at, UsesStep, DoesStep, ReadsStep}
+use Rattle.gh_symb.specs.Passing.{HasPassed, MeetsState, PassesStep}
 use Rattle.gh_symb.specs.declared.over_terms.TermStep.{TermStep}
 use Rattle.gh_symb.specs.declared.context.Context.{Context}
+use Rattle.gh_symb.specs.declared.passed.Passed.{Passed}
 use Rattle.gh_symb.specs.declared.walker.Walker.{Walker}
 use Rattle.gh_symb.specs.declared.symbolic.Walked.{Walked}
 use Rattle.gh_symb.proofs.LackLemmas.{step_lacks, use_lacks}
@@ -175,31 +176,32 @@ bindings_encoded P proc c firsts bs first all = all_encoded P proc c.way.check c
     at_start : (y : Name) → (begins proc c.start).bindings y ≡ None → first_use P proc c.way.steps c.way.check (begins proc c.start) y ≡ firsts y
     at_start y none = sym (first y ∙ ap (λ o. known o None (first_use P proc c.way.steps c.way.check (begins proc c.start) y)) none)
 
-pub gone_on_to : (P : Program) (proc : Procedure) (x : PathStep) (xs : List PathStep) (c : Condition) (s t u : Terms) (firsts learns : Bindings) (states after : List Bindings) (encoded later : List TermStep) (one : TermStep) →
-    IsFollowed P proc (x ∷ xs) c s firsts states encoded → t ≡ step_used proc x s → t.version ≡ s.version → u ≡ step_done P proc x t → EncodesStep one (step_encoding P proc x t) →
-    ((y : Name) → learns y ≡ learned (s.bindings y) (t.bindings y) (firsts y)) → after ≡ states ++ s.bindings ∷ [] → later ≡ encoded ++ one ∷ [] → IsFollowed P proc xs c u learns after later
-gone_on_to P proc x xs c s t u firsts learns states after encoded later one left uses version does encodes learn a l =
-    subst (λ ss. IsFollowed P proc xs c u learns ss later) (sym a)
-    (subst (λ ts. IsFollowed P proc xs c u learns (states ++ s.bindings ∷ []) ts) (sym l) (gone_on P proc x xs c s t u firsts learns states encoded one left uses version does encodes learn))
-
--- the next of some steps, as a walk comes to it: what was met before it and what it uses are kept
-pub gone_past : (set : Context) (P : Program) → program_in set ≡ P → (rs : List kept_step.PathStep) (i : ℕ) (r : kept_step.PathStep) (c : Condition) (u v w : Walker)
-    (before firsts learns : Pairs) (states after : List Pairs) (encoded later : List TermStep) (one : TermStep) → i < length rs → r ≡ get_or rs i r →
-    IsFollowed P (procedure_in set) (map step_of (drop i rs)) c (terms_at u) (bound_by firsts) (map bound_by states) encoded → before ≡ u.scope →
-    UsesStep set r u v → v.version ≡ u.version → DoesStep set r v w → ReadsStep set r v one → LearnsTerms before v.scope firsts learns →
-    after ≡ states ++ before ∷ [] → later ≡ encoded ++ one ∷ [] → IsFollowed P (procedure_in set) (map step_of (drop (i + 1) rs)) c (terms_at w) (bound_by learns) (map bound_by after) later
-gone_past set P program rs i r c u v w before firsts learns states after encoded later one within is left copied uses version does reads learn a l =
+-- a step is walked where it is the next one: what was met before it and what it uses are kept
+pub step_passed : (set : Context) (r : kept_step.PathStep) (u v w : Walker) (k l m : Passed) (one : TermStep) → UsesStep set r u v → v.version ≡ u.version → MeetsState u.scope v.scope k l →
+    DoesStep set r v w → ReadsStep set r v one → m.start ≡ l.start → m.firsts ≡ l.firsts → m.states.items ≡ l.states.items → m.steps.items ≡ l.steps.items ++ one ∷ [] → PassesStep set r u k w m
+step_passed set r u v w k l m one uses version met does reads same_start same_firsts same_states more = λ xs c left.
+    let P = program_in set in
     let proc = procedure_in set in
-    let x = step_of r in
     let s = terms_at u in
     let t = terms_at v in
-    let now : IsFollowed P proc (map step_of (r ∷ drop (i + 1) rs)) c s (bound_by firsts) (map bound_by states) encoded =
-    subst (λ xs. IsFollowed P proc (map step_of xs) c s (bound_by firsts) (map bound_by states) encoded) (head_of rs i r within is) left in
-    let learnt : (y : Name) → bound_by learns y ≡ learned (s.bindings y) (t.bindings y) (bound_by firsts y) = λ y. rw copied at (learn y) in
-    let meets : map bound_by after ≡ map bound_by states ++ s.bindings ∷ [] =
-    ap (map bound_by) a ∙ map-append bound_by states (before ∷ []) ∙ ap (λ es. map bound_by states ++ bound_by es ∷ []) copied in
-    gone_on_to P proc x (map step_of (drop (i + 1) rs)) c s t (terms_at w) (bound_by firsts) (bound_by learns) (map bound_by states) (map bound_by after) encoded later one now
-    uses version (subst (λ Q. terms_at w ≡ step_done Q proc x t) program does) (subst (λ Q. EncodesStep one (step_encoding Q proc x t)) program reads) learnt meets l
+    let learn : (y : Name) → bound_by m.firsts y ≡ learned (s.bindings y) (t.bindings y) (bound_by k.firsts y) = λ y. ap (λ es. bound_by es y) same_firsts ∙ met.learns y in
+    let meets : map bound_by m.states.items ≡ map bound_by k.states.items ++ s.bindings ∷ [] =
+    ap (map bound_by) (same_states ∙ met.states) ∙ map-append bound_by k.states.items (u.scope ∷ []) in
+    let later : m.steps.items ≡ k.steps.items ++ one ∷ [] = more ∙ ap (λ es. es ++ one ∷ []) met.steps in
+    let on : IsFollowed P proc xs c (terms_at w) (bound_by m.firsts) (map bound_by k.states.items ++ s.bindings ∷ []) (k.steps.items ++ one ∷ []) =
+    gone_on P proc (step_of r) xs c s t (terms_at w) (bound_by k.firsts) (bound_by m.firsts) (map bound_by k.states.items) k.steps.items one left.rest uses version does reads learn in
+    record {
+      start = subst (λ b. EncodesUnder b (under (meets_at proc c.start) no_terms)) (sym (same_start ∙ met.start)) left.start;
+      rest =
+          subst (λ ss. IsFollowed P proc xs c (terms_at w) (bound_by m.firsts) ss m.steps.items) (sym meets)
+          (subst (λ ts. IsFollowed P proc xs c (terms_at w) (bound_by m.firsts) (map bound_by k.states.items ++ s.bindings ∷ []) ts) (sym later) on);
+    }
+
+-- the next of some steps is passed
+pub next_passed : (set : Context) (rs : List kept_step.PathStep) (i : ℕ) (r : kept_step.PathStep) (c : Condition) (u w : Walker) (k m : Passed) → i < length rs → r ≡ get_or rs i r →
+    HasPassed set (map step_of (drop i rs)) c u k → PassesStep set r u k w m → HasPassed set (map step_of (drop (i + 1) rs)) c w m
+next_passed set rs i r c u w k m within is left passes =
+    passes (map step_of (drop (i + 1) rs)) c (subst (λ xs. HasPassed set (map step_of xs) c u k) (head_of rs i r within is) left)
 
 -- a walk to the end of a condition
 pub is_walked : (P : Program) (proc : Procedure) (c : Condition) (s : Terms) (firsts : Bindings) (states : List Bindings) (w : Walked) →

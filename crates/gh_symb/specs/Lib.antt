@@ -19,3 +19,4 @@ pub mod Following
 pub mod Contexts
 pub mod Walkers
 pub mod Reads
+pub mod Passing

@@ -2,9 +2,10 @@
 use Rattle.std.specs.Prelude.{◌≡◌, ℕ, List, map}
 use Rattle.gh_ast.specs.declared.Assertion.{Assertion}
 use Rattle.gh_ast.specs.declared.Cond.{Cond}
-use Rattle.gh_ast.specs.Plain.{formula_of, formulas_view, tests_view}
-use Rattle.gh_ast.specs.Programs.{Name}
-use Rattle.gh_path.specs.Terms.{Kind, Terms, walked, all_walked, each_walked, tests_walked}
+use Rattle.gh_ast.specs.declared.Procedure as kept
+use Rattle.gh_ast.specs.Plain.{formula_of, formulas_view, procedure_of, tests_view}
+use Rattle.gh_ast.specs.Programs.{Name, results_of}
+use Rattle.gh_path.specs.Terms.{Kind, Terms, walked, all_walked, each_walked, renewed, tests_walked}
 use Rattle.gh_grass.specs.declared.binding.Bond.{Bond}
 use Rattle.gh_symb.specs.Symbolic.{under, each_under}
 use Rattle.gh_symb.specs.Phases.{learned, bound_unless, under_bindings, both}
@@ -43,6 +44,13 @@ ReadsWalked a ks es i b = EncodesUnder b (under (formula_of a) (state ks es i))
 
 abbrev pub ReadsEach : List Assertion → List Kind → Pairs → ℕ → List BoundAssertion → Type 0
 ReadsEach assertions ks es i bs = Each EncodesUnder bs (each_under (map formula_of assertions) (state ks es i))
+
+-- the results of a procedure get new values, and what the procedure gives is walked; each alternative, once it is walked
+abbrev pub gives_walked : kept.Procedure → Terms → Terms
+gives_walked p s = let q = procedure_of p in each_walked q.gives (renewed (results_of q) s)
+
+abbrev pub ReadsGives : kept.Procedure → List Kind → Pairs → ℕ → List BoundAssertion → Type 0
+ReadsGives p ks es i bs = let q = procedure_of p in Each EncodesUnder bs (each_under q.gives (renewed (results_of q) (state ks es i)))
 
 -- the terms at each state, and where there are none those of first uses
 abbrev pub ReadsStates : List Pairs → Pairs → List (List Bond) → Type 0

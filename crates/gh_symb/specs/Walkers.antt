@@ -6,23 +6,23 @@ use Rattle.gh_ast.specs.declared.Expr.{Expr}
 use Rattle.gh_ast.specs.declared.Occ.{Occ}
 use Rattle.gh_ast.specs.declared.Procedure as whole
 use Rattle.gh_ast.specs.Plain.{Procedure, Program, procedure_of}
-use Rattle.gh_ast.specs.Programs.{names}
+use Rattle.gh_ast.specs.Programs.{names, results_of}
 use Rattle.gh_path.specs.Graphs.{Loop, loops_of, meets_at}
 use Rattle.gh_path.specs.declared.condition.PathStep as kept_step
 use Rattle.gh_path.specs.declared.condition.Start as kept_start
 use Rattle.gh_path.specs.declared.condition.CheckKind as kept_kind
 use Rattle.gh_path.specs.Kept.{step_of, start_of, asked_at}
 use Rattle.gh_path.specs.Terms.{Terms, walked, call_walked, exprs_terms, exprs_used, invariant_walked, step_walked}
-use Rattle.gh_path.specs.Terms.{check_walked}
-use Rattle.gh_symb.specs.Tables.{bound_by, state}
+use Rattle.gh_path.specs.Terms.{bound_inside, check_walked, entry_walked, moved_on, renewed}
+use Rattle.gh_symb.specs.Tables.{Pairs, bound_by, state}
 use Rattle.gh_symb.specs.Rounds.{IsRound}
 use Rattle.gh_symb.specs.Contexts.{program_in, procedure_in, variables_in}
 use Rattle.gh_symb.specs.Steps.{EndsWith, entry_made}
 use Rattle.gh_symb.specs.Phases.{loop_done, loop_encoding, step_done, step_encoding}
 use Rattle.gh_symb.specs.Fitting.{EncodesUnder, EncodesStep, EncodesCheck}
-use Rattle.gh_symb.specs.Reads.{ReadsEach, ReadsWalked}
+use Rattle.gh_symb.specs.Reads.{gives_walked, walked_of, ReadsEach, ReadsWalked}
 use Rattle.gh_symb.specs.Symbolic as plain
-use Rattle.gh_symb.specs.Symbolic.{under, call_parts, needs_under, term_check, step_used, check_used}
+use Rattle.gh_symb.specs.Symbolic.{under, each_under, call_parts, needs_under, term_check, step_used, check_used}
 use Rattle.gh_symb.specs.declared.over_terms.BoundAssertion.{BoundAssertion}
 use Rattle.gh_symb.specs.declared.over_terms.TermStep.{TermStep}
 use Rattle.gh_symb.specs.declared.over_terms.TermCheck.{TermCheck}
@@ -73,6 +73,10 @@ ReadsAnywhere r v encoded = (P : Program) (proc : Procedure) → EncodesStep enc
 abbrev pub WalksInvariant : Context → ℕ → Walker → Walker → Type 0
 WalksInvariant s n v w = Goes (invariant_walked (slice_get (loops_of (procedure_in s)) n)) v w
 
+-- .. and read, once it is walked
+abbrev pub ReadsInvariant : Context → ℕ → Walker → BoundAssertion → Type 0
+ReadsInvariant s n v b = (l : Loop) × (slice_get (loops_of (procedure_in s)) n ≡ Some l) × EncodesUnder b (under l.invariant (terms_at v))
+
 -- a loop that is met
 abbrev pub DoesLoop : Context → Round → Walker → Walker → Type 0
 DoesLoop s round v w = (l : Loop) → IsRound round l → Goes (loop_done (Some l) (variables_in s)) v w
@@ -98,6 +102,22 @@ call_done p xs es s = call_walked (Some (procedure_of p)) (names xs) (exprs_term
 abbrev pub call_read : whole.Procedure → List Expr → Terms → plain.TermStep
 call_read p es s = call_parts (Some (procedure_of p)) (exprs_terms es s) s
 
+-- the names inside a callee: its parameters, bound to the arguments' terms
+abbrev pub IsInsideCall : whole.Procedure → List Expr → Terms → Pairs → Type 0
+IsInsideCall p es s inside = bound_by inside ≡ bound_inside (procedure_of p) (exprs_terms es s)
+
+-- the terms inside a callee
+abbrev pub terms_inside : Walker → Pairs → Terms
+terms_inside w es = state w.kinds es w.version
+
+-- what a callee needs is walked, and in the next version what it gives; the step over terms
+abbrev pub inside_done : whole.Procedure → Terms → Terms
+inside_done p s = gives_walked p (moved_on (walked_of p.needs s))
+
+abbrev pub inside_read : whole.Procedure → Terms → plain.TermStep
+inside_read p s =
+    let q = procedure_of p in plain.parts (under q.needs s) (each_under q.gives (renewed (results_of q) (moved_on (walked q.needs s))))
+
 -- a check: its variables are used; the walk ends with it; what it asks
 abbrev pub UsesCheck : Context → kept_kind.CheckKind → Walker → Walker → Type 0
 UsesCheck s r v w = (at : Span) → bound_by w.scope ≡ (check_used (procedure_in s) (asked_at r at) (terms_at v)).bindings
@@ -117,3 +137,10 @@ EndsEntry p es v w = EndsWith (entry_made (procedure_of p) es (terms_at v)) w.ki
 
 abbrev pub ReadsEntry : whole.Procedure → List Expr → Walker → TermCheck → Type 0
 ReadsEntry p es v asked = let t = exprs_used es (terms_at v) in EncodesCheck asked (needs_under (Some (procedure_of p)) (exprs_terms es t) t)
+
+-- .. of what the procedure of a number needs
+abbrev pub EndsCalled : Context → ℕ → List Expr → Walker → Walker → Type 0
+EndsCalled s n es v w = let t = exprs_used es (terms_at v) in EndsWith (entry_walked (slice_get (program_in s).procedures n) (exprs_terms es t) t) w.kinds w.version
+
+abbrev pub ReadsCalled : Context → ℕ → List Expr → Walker → TermCheck → Type 0
+ReadsCalled s n es v asked = let t = exprs_used es (terms_at v) in EncodesCheck asked (needs_under (slice_get (program_in s).procedures n) (exprs_terms es t) t)

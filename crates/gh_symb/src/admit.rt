@@ -1,8 +1,10 @@
 //! Whether the conditions of a program keep the limits on terms and versions.
 
-ghost use Rattle.std.specs.Prelude.{◌≡◌, ◌∷◌, ◌++◌, [], IfOk, OnOk, IfErr};
+ghost use Rattle.std.specs.Prelude.{◌≡◌, ◌∷◌, ◌++◌, [], length, IfOk, OnOk, IfErr};
 ghost use Rattle.gh_ast.specs.Plain.{program_of};
 ghost use Rattle.gh_path.specs.Admitted.{HasManyTerms, HasManyVersions, NoneHas};
+ghost use Rattle.gh_path.specs.Conditions.{conditions};
+ghost use Rattle.gh_path.specs.Walks.{IsWalkBefore};
 ghost use Rattle.gh_symb.specs.Limits.{IsAdmitRefusal};
 ghost use Rattle.gh_symb.specs.Met.{IsOfTerms, earlier};
 ghost use Rattle.gh_symb.specs.Numbers.{counts_of};
@@ -12,6 +14,7 @@ use crate::counted::counted;
 use crate::limits::{SymbolicError, limit_of};
 use gh_ast::typed::{Limit, Typed};
 use gh_path::conditions::Conditions;
+use gh_path::walk::Walk;
 use std::alloc::{AllocError, Global};
 
 /// The limit, if it is one on terms.
@@ -47,6 +50,44 @@ fn add(counts: &mut Vec<Count>, count: Count) -> Result<(), AllocError>
     Ok(())
 }
 
+/// Adds the counts of each condition that a walk comes to, unless one passes a limit.
+fn count_all(
+    alloc: Global,
+    typed: &Typed,
+    number: u32,
+    walk: &mut Walk<'_, '_>,
+    counts: &mut Vec<Count>,
+) -> Result<(), SymbolicError>
+    requires before { IsWalkBefore (program_of typed.now) walk.old (conditions (program_of typed.now)) }
+    requires number { number ≡ length (conditions (program_of typed.now)) }
+    requires none { counts.old.items ≡ [] }
+    ensures terms { OnOk result (NoneHas (program_of typed.now) (HasManyTerms (program_of typed.now))) }
+    ensures versions { OnOk result (NoneHas (program_of typed.now) (HasManyVersions (program_of typed.now))) }
+    ensures counts { OnOk result (counts.new.items ≡ counts_of (program_of typed.now)) }
+    ensures refused { IfErr result (IsAdmitRefusal (program_of typed.now)) }
+{
+    let _program = typed.program();
+    let mut late = None;
+    for place in 0..number {
+        let more = walk.advance()?;
+        if !more {
+            unreachable!();
+        }
+        let condition = walk.condition();
+        let found = counted(alloc, typed, condition)?;
+        let passed = limit_of(typed, condition, found);
+        if let Some(limit) = of_terms(passed) {
+            return Err(SymbolicError::Limit(limit));
+        }
+        late = earlier(late, passed);
+        add(counts, found.count())?;
+    }
+    match late {
+        Some(limit) => Err(SymbolicError::Limit(limit)),
+        None => Ok(()),
+    }
+}
+
 /// Admits a program as [`admit`] does, and gives how many terms and versions each of its conditions
 /// has, in order.
 pub fn admit_counted(
@@ -60,28 +101,10 @@ pub fn admit_counted(
     ensures versions { OnOk result (NoneHas (program_of typed.now) (HasManyVersions (program_of typed.now))) }
     ensures refused { IfErr result (IsAdmitRefusal (program_of typed.now)) }
 {
-    let _program = typed.program();
-    let mut late = None;
-    let mut counts = Vec::new(alloc);
     let mut walk = conditions.walk(alloc);
-    for place in 0..conditions.count() {
-        let more = walk.advance()?;
-        if !more {
-            unreachable!();
-        }
-        let condition = walk.condition();
-        let found = counted(alloc, typed, condition)?;
-        let passed = limit_of(typed, condition, found);
-        if let Some(limit) = of_terms(passed) {
-            return Err(SymbolicError::Limit(limit));
-        }
-        late = earlier(late, passed);
-        add(&mut counts, found.count())?;
-    }
-    match late {
-        Some(limit) => Err(SymbolicError::Limit(limit)),
-        None => Ok(counts),
-    }
+    let mut counts = Vec::new(alloc);
+    count_all(alloc, typed, conditions.count(), &mut walk, &mut counts)?;
+    Ok(counts)
 }
 
 /// Admits a program whose conditions all keep the limits on terms and versions. Terms are judged

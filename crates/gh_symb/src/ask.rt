@@ -3,18 +3,18 @@
 ghost use Rattle.std.specs.Prelude.{◌≡◌, IfOk, OnOk};
 ghost use Rattle.gh_ast.specs.Plain.{formula_of, procedure_of};
 ghost use Rattle.gh_base.specs.declared.place.Span.{Span};
-ghost use Rattle.gh_path.specs.Graphs.{meets_at};
+ghost use Rattle.gh_path.specs.Graphs.{meets_at, HasLoop, HasProcedure};
 ghost use Rattle.gh_path.specs.Conditions.{CheckIsThere, StartIsThere};
 ghost use Rattle.gh_path.specs.Kept.{asked_at, start_of};
 ghost use Rattle.gh_symb.specs.Fitting.{AsksWhole};
 ghost use Rattle.gh_symb.specs.Contexts.{procedure_in, program_in};
-ghost use Rattle.gh_symb.specs.Walkers.{Begins, EndsCheck, EndsEntry, ReadsCheck, ReadsEntry, UsesAll, UsesCheck};
+ghost use Rattle.gh_symb.specs.Walkers.{Begins, EndsCalled, EndsCheck, EndsEntry, ReadsCalled, ReadsCheck, ReadsEntry};
+ghost use Rattle.gh_symb.specs.Walkers.{ReadsInvariant, UsesAll, UsesCheck, WalksInvariant};
 
 use crate::context::Context;
 use crate::numbers::term_of;
 use crate::over_terms::{BoundAssertion, TermCheck};
 use crate::rounds::round_of;
-use crate::scope::Scope;
 use crate::walker::Walker;
 use gh_ast::{Assertion, Expr, Procedure};
 use gh_path::condition::{CheckKind, Start};
@@ -71,13 +71,45 @@ impl<'a> Walker<'a> {
     {
         self.scope
             .use_exprs(&mut self.kinds, arguments, self.version)?;
-        let terms = self
-            .scope
-            .exprs_terms(alloc, &self.kinds, arguments, self.version)?;
-        let mut inside = Scope::new(alloc);
-        inside.bind_all(callee.parameters.as_slice(), terms.as_slice())?;
+        let mut inside = self.inside(alloc, callee, arguments)?;
         let bound = inside.walk_bound(alloc, &mut self.kinds, &callee.needs, self.version)?;
         Ok(TermCheck::Sub(bound))
+    }
+
+    /// Uses the arguments of a call, and asks what the procedure of a number needs.
+    fn ask_called(
+        &mut self,
+        alloc: Global,
+        context: Context<'a>,
+        callee: u16,
+        arguments: &'a [Expr],
+    ) -> Result<TermCheck<'a>, AllocError>
+        requires { HasProcedure (program_in context) callee }
+        ensures used { OnOk result (UsesAll arguments.now self.old self.new) }
+        ensures ended { OnOk result (EndsCalled context.entry callee arguments.now self.old self.new) }
+        ensures read { IfOk result (ReadsCalled context.entry callee arguments.now self.old) }
+        ensures version { OnOk result (self.new.version ≡ self.old.version) }
+    {
+        let callee = &context.program.procedures[callee as usize];
+        let asked = self.ask_callee(alloc, callee, arguments)?;
+        Ok(asked)
+    }
+
+    /// Walks over the invariant of a loop, and gives it.
+    fn ask_invariant(
+        &mut self,
+        alloc: Global,
+        context: Context<'a>,
+        number: u16,
+    ) -> Result<BoundAssertion<'a>, AllocError>
+        requires { HasLoop (procedure_in context) number }
+        ensures made { OnOk result (WalksInvariant context.entry number self.old self.new) }
+        ensures read { IfOk result (ReadsInvariant context.entry number self.old) }
+        ensures version { OnOk result (self.new.version ≡ self.old.version) }
+    {
+        let round = round_of(context.procedure, number as usize);
+        let bound = self.walk_bound(alloc, round.invariant)?;
+        Ok(bound)
     }
 
     /// Uses the variables of a check, and gives what it asks.
@@ -93,7 +125,6 @@ impl<'a> Walker<'a> {
         ensures read { IfOk result (ReadsCheck context.entry check.now self.old) }
         ensures version { OnOk result (self.new.version ≡ self.old.version) }
     {
-        let procedure = context.procedure;
         match check {
             CheckKind::Access { at } => {
                 self.scope.use_name(&mut self.kinds, at)?;
@@ -101,23 +132,20 @@ impl<'a> Walker<'a> {
                 Ok(TermCheck::Access { x })
             }
             CheckKind::CalleeEntry { callee, arguments } => {
-                let callee = &context.program.procedures[*callee as usize];
-                let asked = self.ask_callee(alloc, callee, arguments.as_slice())?;
+                let asked = self.ask_called(alloc, context, *callee, arguments.as_slice())?;
                 Ok(asked)
             }
             CheckKind::LoopEntry { number } => {
-                let round = round_of(procedure, *number as usize);
-                let bound = self.walk_bound(alloc, round.invariant)?;
+                let bound = self.ask_invariant(alloc, context, *number)?;
                 Ok(TermCheck::Sub(bound))
             }
             CheckKind::Return => {
-                let gives = procedure.gives.as_slice();
+                let gives = context.procedure.gives.as_slice();
                 let bounds = self.walk_bounds(alloc, gives)?;
                 Ok(TermCheck::Whole(bounds))
             }
             CheckKind::LoopEnd { number } => {
-                let round = round_of(procedure, *number as usize);
-                let bound = self.walk_bound(alloc, round.invariant)?;
+                let bound = self.ask_invariant(alloc, context, *number)?;
                 let asked = whole(alloc, bound)?;
                 Ok(asked)
             }

@@ -5,12 +5,13 @@ ghost use Rattle.gh_symb.specs.Tables.{bound_by, Walks};
 ghost use Rattle.gh_symb.specs.Fitting.{EncodesBeside, EncodesBinding};
 ghost use Rattle.gh_symb.specs.Inside.{binding_of};
 ghost use Rattle.gh_symb.specs.Reads.{walked_of, LearnsTerms, ReadsBound, ReadsEach, ReadsStates, ReadsWalked, WalksEach};
+ghost use Rattle.gh_symb.specs.Reads.{gives_walked, ReadsGives};
 
 use crate::kinds::Kinds;
 use crate::numbers::{short, term_of};
 use crate::over_terms::BoundAssertion;
 use crate::scope::Scope;
-use gh_ast::Assertion;
+use gh_ast::{Assertion, Procedure};
 use gh_grass::binding::Binding;
 use std::alloc::{AllocError, Global};
 
@@ -83,6 +84,22 @@ impl<'a> Scope<'a> {
         for alternative in alternatives {
             bounds.push(self.walk_bound(alloc, kinds, alternative, version)?)?;
         }
+        Ok(bounds)
+    }
+
+    /// The results of a procedure get new values. Then walks over what the procedure gives.
+    pub fn walk_gives(
+        &mut self,
+        alloc: Global,
+        kinds: &mut Kinds,
+        procedure: &'a Procedure,
+        version: usize,
+    ) -> Result<Vec<BoundAssertion<'a>>, AllocError>
+        ensures made { OnOk result (Walks (gives_walked procedure.now) kinds.old self.old kinds.new self.new version) }
+        ensures encode { IfOk result (λ bs. ReadsGives procedure.now kinds.old self.old version bs.items) }
+    {
+        self.renew(kinds, procedure.results.as_slice())?;
+        let bounds = self.walk_bounds(alloc, kinds, procedure.gives.as_slice(), version)?;
         Ok(bounds)
     }
 

@@ -9,7 +9,8 @@ ghost use Rattle.gh_path.specs.Conditions.{StepIsThere};
 ghost use Rattle.gh_path.specs.Kept.{step_of};
 ghost use Rattle.gh_symb.specs.Contexts.{procedure_in, program_in};
 ghost use Rattle.gh_symb.specs.Steps.{cell_made, value_set, ChangesCell, KeepsHeap};
-ghost use Rattle.gh_symb.specs.Walkers.{call_done, call_read, cell_read, terms_at, Goes};
+ghost use Rattle.gh_symb.specs.Walkers.{call_done, call_read, cell_read, inside_done, inside_read};
+ghost use Rattle.gh_symb.specs.Walkers.{terms_at, terms_inside, Goes};
 ghost use Rattle.gh_symb.specs.Walkers.{DoesAnywhere, DoesCall, DoesLoop, DoesStep};
 ghost use Rattle.gh_symb.specs.Walkers.{ReadsAnywhere, ReadsCall, ReadsLoop, ReadsStep, WalksStep};
 
@@ -120,6 +121,27 @@ impl<'a> Walker<'a> {
         Ok(step)
     }
 
+    /// Walks over what a callee needs, and in the next version over what it gives.
+    fn walk_callee(
+        &mut self,
+        alloc: Global,
+        callee: &'a Procedure,
+        inside: &mut Scope<'a>,
+    ) -> Result<TermStep<'a>, AllocError>
+        requires { self.old.version < 9223372036854775807 }
+        ensures done { OnOk result (
+            terms_inside self.new inside.new ≡ inside_done callee.now (terms_inside self.old inside.old)) }
+        ensures scope { OnOk result (self.new.scope ≡ self.old.scope) }
+        ensures next { OnOk result (self.new.version ≤ self.old.version + 1) }
+        ensures read { IfOk result (λ step.
+            EncodesStep step (inside_read callee.now (terms_inside self.old inside.old))) }
+    {
+        let before = inside.walk_bound(alloc, &mut self.kinds, &callee.needs, self.version)?;
+        self.version += 1;
+        let after = inside.walk_gives(alloc, &mut self.kinds, callee, self.version)?;
+        Ok(TermStep::Part { before, after })
+    }
+
     /// Does a call whose arguments are used. The next version begins.
     fn encode_call(
         &mut self,
@@ -133,19 +155,11 @@ impl<'a> Walker<'a> {
         ensures read { IfOk result (λ step. EncodesStep step (call_read callee.now arguments.now (terms_at self.old))) }
         ensures next { OnOk result (self.new.version ≤ self.old.version + 1) }
     {
-        let terms = self
-            .scope
-            .exprs_terms(alloc, &self.kinds, arguments, self.version)?;
-        let mut inside = Scope::new(alloc);
-        inside.bind_all(callee.parameters.as_slice(), terms.as_slice())?;
-        let before = inside.walk_bound(alloc, &mut self.kinds, &callee.needs, self.version)?;
-        inside.renew(&mut self.kinds, callee.results.as_slice())?;
-        self.version += 1;
-        let gives = callee.gives.as_slice();
-        let after = inside.walk_bounds(alloc, &mut self.kinds, gives, self.version)?;
-        let results = inside.terms(alloc, callee.results.as_slice())?;
-        self.scope.bind_all(targets, results.as_slice())?;
-        Ok(TermStep::Part { before, after })
+        let mut inside = self.inside(alloc, callee, arguments)?;
+        let step = self.walk_callee(alloc, callee, &mut inside)?;
+        self.scope
+            .bind_from(alloc, targets, &inside, callee.results.as_slice())?;
+        Ok(step)
     }
 
     /// Does a call of the procedure of a number.

@@ -13,6 +13,7 @@ pub mod laws;
 pub mod limits;
 mod numbers;
 pub mod over_terms;
+mod passed;
 mod rounds;
 pub mod scope;
 mod steps;

@@ -1,20 +1,22 @@
 //! A condition over terms.
 
-ghost use Rattle.std.specs.Prelude.{IfOk, IfErr};
+ghost use Rattle.std.specs.Prelude.{◌≤◌, [], IfOk, IfErr};
 ghost use Rattle.gh_ast.specs.Plain.{Procedure, Program, program_of};
 ghost use Rattle.gh_path.specs.Conditions as plain;
-ghost use Rattle.gh_path.specs.Kept.{IsScoped, HoldsFor};
+ghost use Rattle.gh_path.specs.Kept.{condition_of, IsScoped, HoldsFor};
+ghost use Rattle.gh_symb.specs.Contexts.{procedure_in, program_in, IsContextOf};
 ghost use Rattle.gh_symb.specs.Limits.{PassesNone, IsRefusedBy};
 ghost use Rattle.gh_symb.specs.Encoded.{IsSymbolic};
-ghost use Rattle.gh_symb.specs.Walked.{EncodesWalked, IsWalkedFar, IsWithinLimits};
+ghost use Rattle.gh_symb.specs.Passing.{HasPassed};
+ghost use Rattle.gh_symb.specs.Walked.{EncodesWalked, IsWalked, IsWalkedFar, IsWithinLimits};
 
 use crate::bindings::all_bindings;
-use crate::context::context_of;
-use crate::count::{Counted, MOST_TERMS};
+use crate::context::{Context, context_of};
+use crate::count::Counted;
 use crate::kinds::Kinds;
 use crate::limits::{SymbolicError, limit_of, terms_limit};
 use crate::over_terms::{BoundAssertion, Symbolic, TermCheck, TermStep};
-use crate::scope::Scope;
+use crate::passed::Passed;
 use crate::walker::Walker;
 use gh_ast::typed::Typed;
 use gh_grass::binding::Binding;
@@ -34,6 +36,35 @@ pub struct Walked<'a> {
     pub bindings: Vec<Binding>,
 }
 
+/// Walks over the check of a condition whose steps are passed.
+fn end<'a>(
+    alloc: Global,
+    context: Context<'a>,
+    condition: &'a Condition,
+    walker: Walker<'a>,
+    passed: Passed<'a>,
+) -> Result<Walked<'a>, AllocError>
+    requires of { IsContextOf (program_in context) condition.now context }
+    requires room { walker.version ≤ 9223372036854775807 }
+    requires passed { HasPassed context [] (condition_of condition.now) walker passed }
+    ensures { IfOk result (IsWalked (program_in context.entry) (procedure_in context.entry) (condition_of condition.now)) }
+{
+    let mut walker = walker;
+    let mut passed = passed;
+    let check = passed.ask_check(alloc, &mut walker, context, &condition.check.kind)?;
+    let bindings = all_bindings(alloc, passed.states.as_slice(), &passed.firsts)?;
+    let counts = Counted::new(walker.kinds.count(), walker.version + 1);
+    Ok(Walked {
+        kinds: walker.kinds,
+        version: walker.version,
+        counts,
+        start: passed.start,
+        steps: passed.steps,
+        check,
+        bindings,
+    })
+}
+
 /// Walks over a condition. There is none where it has too many terms before its check.
 fn walk<'a>(
     alloc: Global,
@@ -45,36 +76,12 @@ fn walk<'a>(
 {
     let context = context_of(typed, condition);
     let mut walker = Walker::new(alloc)?;
-    let start = walker.ask_start(alloc, context, condition.start)?;
-    let mut firsts = Scope::new(alloc);
-    let mut states = Vec::new(alloc);
-    let mut steps = Vec::new(alloc);
-    for step in condition.steps.as_slice() {
-        let before = walker.scope.copy(alloc)?;
-        walker.use_step(context, step)?;
-        firsts.learn(&before, &walker.scope)?;
-        states.push(before)?;
-        let encoded = walker.encode_step(alloc, context, step)?;
-        steps.push(encoded)?;
-        if walker.kinds.count() > MOST_TERMS {
-            return Ok(None);
-        }
+    let mut passed = Passed::begin(alloc, &mut walker, context, condition)?;
+    if !passed.pass_all(alloc, &mut walker, context, condition)? {
+        return Ok(None);
     }
-    let before = walker.scope.copy(alloc)?;
-    let check = walker.ask_check(alloc, context, &condition.check.kind)?;
-    firsts.learn(&before, &walker.scope)?;
-    states.push(before)?;
-    let bindings = all_bindings(alloc, states.as_slice(), &firsts)?;
-    let counts = Counted::new(walker.kinds.count(), walker.version + 1);
-    Ok(Some(Walked {
-        kinds: walker.kinds,
-        version: walker.version,
-        counts,
-        start,
-        steps,
-        check,
-        bindings,
-    }))
+    let walked = end(alloc, context, condition, walker, passed)?;
+    Ok(Some(walked))
 }
 
 /// The condition over terms of a condition that passes no limit.

@@ -3,7 +3,7 @@
 ghost use Rattle.std.specs.Prelude.{◌≡◌, ℕ, List, IfOk, OnOk, map, unwrap_or};
 ghost use Rattle.gh_ast.specs.Plain.{test_of};
 ghost use Rattle.gh_ast.specs.Programs.{names};
-ghost use Rattle.gh_path.specs.Terms.{Kind, operand_used, operand_term, expr_used, expr_term};
+ghost use Rattle.gh_path.specs.Terms.{Kind, all_bound, operand_used, operand_term, expr_used, expr_term};
 ghost use Rattle.gh_path.specs.Terms.{exprs_used, exprs_terms, test_walked};
 ghost use Rattle.gh_symb.specs.Reads.{all_tests_of, all_walked_of, walked_of};
 ghost use Rattle.gh_symb.specs.Tables.{bound_by, state, IsOperandTerm, Visits, Walks, WalksAlways};
@@ -147,6 +147,22 @@ impl<'a> Scope<'a> {
             terms.push(self.term(&occ.name))?;
         }
         Ok(terms)
+    }
+
+    /// Binds variables to the terms that others have in another scope.
+    pub fn bind_from(
+        &mut self,
+        alloc: Global,
+        targets: &'a [Occ],
+        inside: &Scope<'a>,
+        results: &[Occ],
+    ) -> Result<(), AllocError>
+        ensures { OnOk result (bound_by self.new ≡ all_bound (bound_by self.old) (names targets.now)
+            (map (λ x. unwrap_or (bound_by inside.now x) 0) (names results.now))) }
+    {
+        let terms = inside.terms(alloc, results)?;
+        self.bind_all(targets, terms.as_slice())?;
+        Ok(())
     }
 
     /// Walks over a test.

@@ -7,14 +7,14 @@ ghost use Rattle.gh_path.specs.Graphs.{HasLoop};
 ghost use Rattle.gh_path.specs.Conditions.{StepIsThere};
 ghost use Rattle.gh_path.specs.Kept.{step_of};
 ghost use Rattle.gh_symb.specs.Contexts.{procedure_in, program_in};
-ghost use Rattle.gh_symb.specs.Walkers.{terms_at, Goes, ReadsAssertion, ReadsWays, UsesStep, WalksInvariant};
+ghost use Rattle.gh_symb.specs.Walkers.{terms_at, Goes, IsInsideCall, ReadsAssertion, ReadsWays, UsesStep, WalksInvariant};
 
 use crate::context::Context;
 use crate::kinds::Kinds;
 use crate::over_terms::BoundAssertion;
 use crate::rounds::round_of;
 use crate::scope::Scope;
-use gh_ast::Assertion;
+use gh_ast::{Assertion, Expr, Procedure};
 use gh_path::condition::PathStep;
 use std::alloc::{AllocError, Global};
 
@@ -74,6 +74,23 @@ impl<'a> Walker<'a> {
             .scope
             .walk_bounds(alloc, &mut self.kinds, ways, version)?;
         Ok(bounds)
+    }
+
+    /// The scope inside a callee: its parameters have the terms of the arguments.
+    pub fn inside(
+        &self,
+        alloc: Global,
+        callee: &'a Procedure,
+        arguments: &[Expr],
+    ) -> Result<Scope<'a>, AllocError>
+        ensures { IfOk result (λ inside. IsInsideCall callee.now arguments.now (terms_at self.now) inside) }
+    {
+        let terms = self
+            .scope
+            .exprs_terms(alloc, &self.kinds, arguments, self.version)?;
+        let mut inside = Scope::new(alloc);
+        inside.bind_all(callee.parameters.as_slice(), terms.as_slice())?;
+        Ok(inside)
     }
 
     /// Walks over the invariant of a loop.

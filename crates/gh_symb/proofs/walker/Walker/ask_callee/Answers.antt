@@ -3,7 +3,7 @@ use Rattle.gh_ast.specs.Plain.{procedure_of}
 use Rattle.gh_path.specs.Terms.{Terms, exprs_used, exprs_terms, walked, rebound, bound_inside, terms}
 use Rattle.gh_symb.specs.Steps.{EndsWith}
 use Rattle.gh_symb.specs.Symbolic.{needs_under}
-use Rattle.gh_symb.specs.Tables.{bound_by, state}
+use Rattle.gh_symb.specs.Tables.{state}
 use Rattle.gh_symb.specs.Walkers.{terms_at}
 use Rattle.gh_symb.specs.Fitting.{EncodesCheck}
 use Rattle.gh_symb.specs.declared.over_terms.TermCheck.TheVariants as check
@@ -17,9 +17,7 @@ returns-clause-ended c =
     let es = c.args.arguments.now in
     let t = state c.use_exprs.new.kinds c.use_exprs.new.self v in
     let used : t ≡ exprs_used es (terms_at c.args.self.now) = c.in_ok-use_exprs.ensures in
-    let binds : bound_by c.bind_all.new.self ≡ bound_inside p (exprs_terms es t) =
-    rw (c.new-inside.ensures, c.as_slice.ensures.value, c.as_slice-2.ensures.value, c.in_ok-terms.ensures) at c.in_ok-bind_all.ensures in
-    let walks = c.in_ok-bound.ensures.made ∙ ap (λ b. walked p.needs (terms c.use_exprs.new.kinds b v)) binds in
+    let walks = c.in_ok-bound.ensures.made ∙ ap (λ b. walked p.needs (terms c.use_exprs.new.kinds b v)) c.in_ok-inside.ensures in
     subst (λ (q : Terms). EndsWith (walked p.needs (rebound q (bound_inside p (exprs_terms es q)))) c.walk_bound.new.kinds v) used
     (record { kinds_are = ap (λ (q : Terms). q.kinds) walks; version_is = ap (λ (q : Terms). q.version) walks })
 
@@ -31,8 +29,6 @@ returns-clause-read c =
     let t = state c.use_exprs.new.kinds c.use_exprs.new.self v in
     let used : t ≡ exprs_used es (terms_at c.args.self.now) = c.in_ok-use_exprs.ensures in
     let ts = exprs_terms es t in
-    let i = state c.use_exprs.new.kinds c.bind_all.new.self v in
-    let binds : bound_by c.bind_all.new.self ≡ bound_inside p ts =
-    rw (c.new-inside.ensures, c.as_slice.ensures.value, c.as_slice-2.ensures.value, c.in_ok-terms.ensures) at c.in_ok-bind_all.ensures in
-    let enters : i ≡ rebound t (bound_inside p ts) = ap (λ b. terms c.use_exprs.new.kinds b v) binds in
+    let i = state c.use_exprs.new.kinds c.in_ok-inside.inside v in
+    let enters : i ≡ rebound t (bound_inside p ts) = ap (λ b. terms c.use_exprs.new.kinds b v) c.in_ok-inside.ensures in
     subst (λ (q : Terms). EncodesCheck (check.Sub c.in_ok-bound.bound) (needs_under (Some p) (exprs_terms es q) q)) used (entry_encoded p ts t i c.in_ok-bound.bound enters c.in_ok-bound.ensures.encodes)

@@ -1,23 +1,31 @@
-use Rattle.std.proofs.Common.{◌≡◌, ◌∙◌, ◌+◌, ap}
+use Rattle.std.proofs.Common.{◌≡◌, ◌∙◌, ap, map, subst}
 use Rattle.gh_ast.specs.Plain.{procedure_of}
-use Rattle.gh_ast.specs.Programs.{results_of}
-use Rattle.gh_path.specs.Terms.{Terms, exprs_terms, walked, renewed, moved_on, rebound, bound_inside, terms}
-use Rattle.gh_symb.specs.Tables.{bound_by, state}
-use Rattle.gh_symb.specs.Walkers.{terms_at}
-use Rattle.gh_symb.proofs.EncodingLemmas.{call_encoded}
+use Rattle.gh_ast.specs.Programs.{names, results_of}
+use Rattle.gh_path.specs.Terms.{Bindings, Terms, all_bound, bound_inside, exprs_terms, rebound, term_of, terms}
+use Rattle.gh_symb.specs.Fitting.{EncodesStep}
+use Rattle.gh_symb.specs.Tables.{bound_by}
+use Rattle.gh_symb.specs.Walkers.{terms_at, terms_inside, inside_done, inside_read}
 use Rattle.gh_symb.proofs.walker.Walker.encode_call.Goals as goal
+
+pub returns-clause-done : goal.returns-clause-done
+returns-clause-done c =
+    let v = c.args.self.now in
+    let w = c.walk_callee.new.self in
+    let p = procedure_of c.args.callee.now in
+    let s = terms_at v in
+    let ts = exprs_terms c.args.arguments.now s in
+    let enters : terms_inside v c.in_ok-inside.inside ≡ rebound s (bound_inside p ts) = ap (λ (b : Bindings). terms v.kinds b v.version) c.in_ok-inside.ensures in
+    let does : terms_inside w c.walk_callee.new.inside ≡ inside_done c.args.callee.now (rebound s (bound_inside p ts)) =
+    c.in_ok-step.ensures.done ∙ ap (inside_done c.args.callee.now) enters in
+    let binds : bound_by c.bind_from.new.self ≡ all_bound s.bindings (names c.args.targets.now) (map (λ x. term_of x (terms_inside w c.walk_callee.new.inside)) (results_of p)) =
+    rw (c.as_slice.ensures.value, c.in_ok-step.ensures.scope) at c.in_ok-bind_from.ensures in
+    ap (λ (b : Bindings). terms w.kinds b w.version) binds
+    ∙ ap (λ (q : Terms). rebound q (all_bound s.bindings (names c.args.targets.now) (map (λ x. term_of x q) (results_of p)))) does
 
 pub returns-clause-read : goal.returns-clause-read
 returns-clause-read c =
-    let v = c.args.self.now.version in
+    let v = c.args.self.now in
     let p = procedure_of c.args.callee.now in
-    let s = terms_at c.args.self.now in
-    let ts = exprs_terms c.args.arguments.now s in
-    let i = state c.args.self.now.kinds c.bind_all.new.self v in
-    let r = state c.renew.new.kinds c.renew.new.self (v + 1) in
-    let binds : bound_by c.bind_all.new.self ≡ bound_inside p ts =
-    rw (c.new-inside.ensures, c.as_slice.ensures.value, c.as_slice-2.ensures.value, c.in_ok-terms.ensures) at c.in_ok-bind_all.ensures in
-    let enters : i ≡ rebound s (bound_inside p ts) = ap (λ b. terms c.args.self.now.kinds b v) binds in
-    let renew : r ≡ renewed (results_of p) (moved_on (walked p.needs i)) =
-    rw c.as_slice-3.ensures.value at (c.in_ok-renew.ensures (v + 1)) ∙ ap (λ (q : Terms). renewed (results_of p) (moved_on q)) c.in_ok-before.ensures.made in
-    call_encoded p ts s i r c.in_ok-before.before c.in_ok-after.after enters c.in_ok-before.ensures.encodes renew (rw c.as_slice-gives.ensures.value at c.in_ok-after.ensures.encode)
+    let s = terms_at v in
+    let enters : terms_inside v c.in_ok-inside.inside ≡ rebound s (bound_inside p (exprs_terms c.args.arguments.now s)) = ap (λ (b : Bindings). terms v.kinds b v.version) c.in_ok-inside.ensures in
+    subst (λ (q : Terms). EncodesStep c.in_ok-step.step (inside_read c.args.callee.now q)) enters c.in_ok-step.ensures.read

@@ -5,7 +5,7 @@ use Rattle.gh_path.specs.Walks.{IsWalkBefore}
 use Rattle.gh_symb.specs.Limits.{HasTerms}
 use Rattle.gh_symb.specs.Met.{NoneMet, IsMet}
 use Rattle.gh_symb.proofs.AdmitLemmas.{its_count}
-use Rattle.gh_symb.proofs.admit.admit_counted.Given as goal
+use Rattle.gh_symb.proofs.admit.count_all.Given as goal
 
 abbrev pub invariant-loop-place : goal.invariant-loop-place
 invariant-loop-place l = record {
