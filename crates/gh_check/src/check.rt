@@ -44,18 +44,24 @@ fn keep(before: &mut Earlier<'_>)
     before.kept.advance();
 }
 
-/// Checks each line of a section, in order, and that the clause of the last one is empty.
-pub fn check_log(alloc: Global, ground: &Ground, section: &Section) -> Result<(), CheckError>
-    requires { section.now.first + length section.now.lines ≤ 4294967295 }
+// Checks the lines of a section after what is kept before the first one.
+fn check_lines(
+    alloc: Global,
+    ground: &Ground,
+    section: &Section,
+    before: &mut Earlier<'_>,
+) -> Result<(), CheckError>
+    requires numbers { section.now.first + length section.now.lines ≤ 4294967295 }
+    requires first { IsBeforeAll ground.now section.now.lines before.old.kept }
+    requires ready { FitsSizes ground.now.sizes before.old }
     ensures valid { OnOk result (IsValidSection ground.now section.now.lines) }
     ensures refused { IfErr result (IsSectionError ground.now section.now.first section.now.lines) }
 {
     let lines = &section.lines;
-    let mut before = nothing_before(alloc, ground, lines)?;
     let mut line = section.first;
     for place in 0..lines.len() {
-        match checked(alloc, ground, &mut before, lines.line(place))? {
-            Outcome::Holds => keep(&mut before),
+        match checked(alloc, ground, before, lines.line(place))? {
+            Outcome::Holds => keep(before),
             Outcome::Faulty(kind) => return Err(CheckError::Fault(LogFault::new(kind, line))),
         }
         line += 1;
@@ -66,4 +72,14 @@ pub fn check_log(alloc: Global, ground: &Ground, section: &Section) -> Result<()
         let fault = LogFault::new(FaultKind::NoEmptyClause, line);
         Err(CheckError::Fault(fault))
     }
+}
+
+/// Checks each line of a section, in order, and that the clause of the last one is empty.
+pub fn check_log(alloc: Global, ground: &Ground, section: &Section) -> Result<(), CheckError>
+    requires { section.now.first + length section.now.lines ≤ 4294967295 }
+    ensures valid { OnOk result (IsValidSection ground.now section.now.lines) }
+    ensures refused { IfErr result (IsSectionError ground.now section.now.first section.now.lines) }
+{
+    let mut before = nothing_before(alloc, ground, &section.lines)?;
+    check_lines(alloc, ground, section, &mut before)
 }

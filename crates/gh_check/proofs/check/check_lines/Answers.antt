@@ -5,7 +5,7 @@ use Rattle.gh_check.specs.Answers.{IsSectionError}
 use Rattle.gh_check.specs.declared.fault.LogFault.{LogFault}
 use Rattle.gh_check.specs.declared.fault.CheckError.TheVariants.{Fault}
 use Rattle.gh_check.proofs.SectionLemmas.{line_refused, has_next, reads_more, all_read, end_refused}
-use Rattle.gh_check.proofs.check.check_log.Goals as goal
+use Rattle.gh_check.proofs.check.check_lines.Goals as goal
 
 pub returns-in-Faulty-clause-refused : goal.returns-in-Faulty-clause-refused
 returns-in-Faulty-clause-refused c =
@@ -46,8 +46,8 @@ pub returns-then-ends_empty-clause-valid : goal.returns-then-ends_empty-clause-v
 returns-then-ends_empty-clause-valid c =
     all_read c.args.ground.now c.args.section.now.first c.args.section.now.lines c.loop-place.place c.loop-place.before c.loop-place.line (omega arith) c.loop-place.invariant (c.if-ends_empty.ensures.0 refl)
 
-pub returns-clause-refused : goal.returns-clause-refused
-returns-clause-refused c =
+pub returns-else-ends_empty-clause-refused : goal.returns-else-ends_empty-clause-refused
+returns-else-ends_empty-clause-refused c =
     let lines = c.args.section.now.lines in
     subst (λ (f : LogFault). IsSectionError c.args.ground.now c.args.section.now.first lines (Fault f)) (sym c.new-fault.ensures)
     (end_refused c.args.ground.now c.args.section.now.first lines c.loop-place.place c.loop-place.before c.loop-place.line (omega arith) (omega arith) c.loop-place.invariant
