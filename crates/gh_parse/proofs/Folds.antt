@@ -54,6 +54,9 @@ formula_of-star v = ap formula_of (sym (rolls-Star v)) ∙ fold-roll-Assertion F
 pub formula_of-cases : (t : Cond) (a b : Box Assertion Global) → formula_of (assertion.Cases t a b) ≡ cases (test_of t) (formula_of a.value) (formula_of b.value)
 formula_of-cases t a b = ap formula_of (sym (rolls-Cases t a b)) ∙ fold-roll-Assertion Formula formula_step (Assertion-F.Cases t a b)
 
+pub formula_of-cases_as : {t u : Cond} {y z : Box Assertion Global} (n : Box Assertion Global) → t ≡ u → y ≡ z → formula_of (assertion.Cases t y n) ≡ cases (test_of u) (formula_of z.value) (formula_of n.value)
+formula_of-cases_as {u = u} {y = y} {z = z} n e f = ap (λ a. formula_of (assertion.Cases a y n)) e ∙ ap (λ a. formula_of (assertion.Cases u a n)) f ∙ formula_of-cases u z n
+
 pub formulas_before : (xs : List Assertion) → before (λ c. formula_first (formula_of c)) xs no_formulas ≡ formulas_of (map formula_of xs)
 formulas_before [] = refl
 formulas_before (x ∷ xs) = ap (formula_first (formula_of x)) (formulas_before xs)

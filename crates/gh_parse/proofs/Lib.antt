@@ -13,6 +13,7 @@ pub mod ProcedureForms
 pub mod ProgramForms
 pub mod ClaimForms
 pub mod QuestionForms
+pub mod Heads
 pub mod Lexemes
 pub mod Tables
 pub mod Lexing

@@ -1,9 +1,8 @@
 -- How questions are made, and where reading them stops.
-use Rattle.std.proofs.Common.{◌≡◌, ◌∙◌, List, [], ◌∷◌, ◌++◌, append_assoc, append-nil, Result, Ok, Err, refl, sym, ap, subst}
+use Rattle.std.proofs.Common.{◌≡◌, ◌∙◌, List, [], ◌∷◌, ◌++◌, append_assoc, append-nil, ◌≢◌, Result, Ok, Err, IfOk, IfErr, refl, sym, ap, subst}
 use Rattle.std.specs.Result.{result_and}
 use Rattle.gh_base.specs.declared.place.Span.{Span}
 use Rattle.gh_ast.specs.declared.Occ.{Occ}
-use Rattle.gh_ast.specs.declared.question.Claim as read
 use Rattle.gh_ast.specs.declared.sign.Sign.TheVariants as sg
 use Rattle.gh_ast.specs.declared.sign.Keyword.TheVariants as kw
 use Rattle.gh_ast.specs.Tokens.{Token, named, key, sign, first_place}
@@ -13,7 +12,8 @@ use Rattle.gh_ast.specs.QuestionGrammar.{SpellsClaim, SpellsVariables, no_variab
 use Rattle.gh_ast.proofs.OneQuestion.{one_claim, one_variables}
 use Rattle.gh_parse.specs.Stops.{Tok, tok, Any, any, Seq, seq, EndsHere, IsAny, IsEnd, IsAlike, SameNext, same, none, Stops}
 use Rattle.gh_parse.specs.declared.error.ReadError.{ReadError}
-use Rattle.gh_parse.specs.Answers.{IsMissing, TakesKind}
+use Rattle.gh_parse.specs.declared.error.ReadError.TheVariants.{Unexpected, OutOfMemory}
+use Rattle.gh_parse.specs.Answers.{IsRuleRead}
 use Rattle.gh_parse.specs.Procedures.{AddsLocals, SpellsToEnd}
 use Rattle.gh_parse.specs.Questions.{IsApart, SpellsWhole, Pair, SpellsClaims}
 use Rattle.gh_parse.proofs.Rules.{Breaks, after_any, alike_same, begins_not, form, by, through, first_any, next, after, each, Sentences, plain_first, plain_end}
@@ -80,17 +80,6 @@ a_right rest h = let a = a_last rest h in (key kw.Ensures first_place ∷ a.0, a
 pub claims_spelled : {ts us vs rest : List Token} {p : Span} {c d : Claim} → SpellsClaim ts c us → us ≡ key kw.Ensures p ∷ vs → SpellsWhole SpellsClaim vs d rest
     → SpellsClaims ts (record { left = c; right = d }) rest
 claims_spelled {us = us} {vs = vs} {p = p} a e b = record { word = p; before_word = us; after_word = vs; left = a; middle = e; right = b }
-
--- the word is taken after a claim, or missing
-pub word_taken : (ts left : List Token) (answer : Result Span ReadError) (x y : read.Claim) → Ok y ≡ result_and answer (Ok x) → TakesKind (key kw.Ensures) ts answer left
-    → (y ≡ x) × (p : Span) × (ts ≡ key kw.Ensures p ∷ left)
-word_taken ts left (Ok p) x y e h = (cc, p, h)
-word_taken ts left (Err r) x y e h = absurd (cc)
-
-pub word_missing : (ts left : List Token) (answer : Result Span ReadError) (x : read.Claim) (r : ReadError) → Err r ≡ result_and answer (Ok x) → TakesKind (key kw.Ensures) ts answer left
-    → IsMissing (key kw.Ensures) ts left r
-word_missing ts left (Ok p) x r e h = absurd (cc)
-word_missing ts left (Err s) x r e h = let f : s ≡ r = cc in subst (λ z. IsMissing (key kw.Ensures) ts left z) f h
 
 pub make_claims : (xs r : List Token) → Claims xs r → Any SpellsClaims xs r
 make_claims _ _ (seq (any {x = c} a) (seq tok (any {x = d} b))) = any {x = record { left = c; right = d }} (claims_spelled a refl b)
@@ -297,3 +286,10 @@ pub stops_declaration : {old : List Occ} {ts us left : List Token} (p : Span) �
 stops_declaration {ts = ts} {us = us} {left = left} p n e s =
     by make_some (λ xs r d h. part_some xs r (begins_not n d) h)
     (subst (λ z. Stops IsAny (Seq (Tok (key kw.Var)) (Any SpellsLocals)) z left) (sym e) (after_any p (breaks_locals s)))
+
+-- a claim, and whether a token is left after it
+pub whole_claim : {Y : Type 0} (ts us : List Token) (view : Y → Claim) (y : Y) (answer : Result (Unit {0}) ReadError) → SpellsClaim ts (view y) us
+    → IfOk answer (λ _. us ≡ []) → IfErr answer (λ _. us ≢ []) → IsRuleRead IsEnd (SpellsWhole SpellsClaim) ts view (result_and answer (Ok y)) us
+whole_claim ts us view y (Ok u) a over more = record { spelled = a; end = over }
+whole_claim ts us view y (Err Unexpected) a over more = stops_over a more
+whole_claim ts us view y (Err OutOfMemory) a over more = tt

@@ -10,7 +10,7 @@ ghost use Rattle.gh_parse.specs.Stops.{EndsHere, IsAny, goes_on};
 ghost use Rattle.gh_parse.specs.Answers.{IsReadBy, IsBetween, IsAhead, HasKey};
 ghost use Rattle.gh_parse.specs.Assertions.{SpellsBraced};
 
-use crate::cursor::{Ahead, Parser};
+use crate::cursor::{Ahead, Parser, paired};
 use crate::error::ReadError;
 use gh_ast::sign::{Keyword, Sign};
 use gh_ast::{Assertion, Operand};
@@ -112,9 +112,9 @@ impl<'t> Parser<'t> {
     {
         self.expect_key(Keyword::If)?;
         let test = self.enclosed_test(alloc, false)?;
-        let yes = self.braced(alloc)?;
-        self.expect_key(Keyword::Else)?;
-        let no = self.braced(alloc)?;
+        let (test, yes) = paired(test, self.braced(alloc))?;
+        let (test, yes) = self.expect_key(Keyword::Else).and(Ok((test, yes)))?;
+        let ((test, yes), no) = paired((test, yes), self.braced(alloc))?;
         Ok(Assertion::Cases { test, yes, no })
     }
 

@@ -16,10 +16,13 @@ use std::alloc::Global;
 fn variable_of(value: Expr) -> Option<Occ>
     ensures { IsVariableOf value result }
 {
-    match value {
-        Expr::Plain(Operand::Var(at)) => Some(at),
-        _ => None,
-    }
+    let Expr::Plain(operand) = value else {
+        return None;
+    };
+    let Operand::Var(at) = operand else {
+        return None;
+    };
+    Some(at)
 }
 
 impl<'t> Parser<'t> {
@@ -86,8 +89,8 @@ impl<'t> Parser<'t> {
         self.expect_key(Keyword::Next)?;
         self.expect_sign(Sign::Assign)?;
         let value = self.expr(alloc, true)?;
-        self.expect_sign(Sign::Semicolon)?;
-        Ok(Stmt::Write { at, value })
+        self.expect_sign(Sign::Semicolon)
+            .and(Ok(Stmt::Write { at, value }))
     }
 
     /// Reads an assignment, an allocation or a call to one target, from `:=` on.
@@ -104,8 +107,9 @@ impl<'t> Parser<'t> {
         }
         let value = self.expr(alloc, true)?;
         if !self.is_sign(Sign::ParenOpen) {
-            self.expect_sign(Sign::Semicolon)?;
-            return Ok(Stmt::Set { target, value });
+            return self
+                .expect_sign(Sign::Semicolon)
+                .and(Ok(Stmt::Set { target, value }));
         }
         let Some(callee) = variable_of(value) else {
             return Err(ReadError::Unexpected);

@@ -1,6 +1,6 @@
 //! The tokens that are left, and steps over them.
 
-ghost use Rattle.std.specs.Prelude.{◌≡◌, IfNone};
+ghost use Rattle.std.specs.Prelude.{◌≡◌, IfNone, IfOk, MatchResult, Ok, Err};
 ghost use Rattle.gh_ast.specs.Tokens.{named, key, sign};
 ghost use Rattle.gh_parse.specs.Views.{tokens_of};
 ghost use Rattle.gh_parse.specs.Answers.{TakesKind, IsSignTaken, IsKeyTaken, IsAhead, IsSignNext, IsKeyNext, next_place};
@@ -26,6 +26,17 @@ pub enum Ahead {
 #[derive(Drop)]
 pub struct Parser<'t> {
     pub rest: &'t [Token<'t>],
+}
+
+/// What was read first, and what was read after it.
+pub fn paired<A: Drop, B: Drop>(first: A, second: Result<B, ReadError>) -> Result<(A, B), ReadError>
+    ensures second { MatchResult result (λ p. second ≡ Ok p.1) (λ e. second ≡ Err e) }
+    ensures first { IfOk result (λ p. p.0 ≡ first) }
+{
+    match second {
+        Ok(value) => Ok((first, value)),
+        Err(e) => Err(e),
+    }
 }
 
 impl<'t> Parser<'t> {
@@ -58,16 +69,17 @@ impl<'t> Parser<'t> {
         ensures taken { IsSignTaken wanted self.old result self.new }
         ensures stays { IfNone result (tokens_of self.new.rest.now ≡ tokens_of self.old.rest.now) }
     {
-        match self.rest {
-            [first, rest @ ..] => match first.symbol {
-                Symbol::Sign(s) if s == wanted => {
-                    self.rest = rest;
-                    Some(first.span)
-                }
-                _ => None,
-            },
-            [] => None,
+        let [first, rest @ ..] = self.rest else {
+            return None;
+        };
+        let Symbol::Sign(sign) = first.symbol else {
+            return None;
+        };
+        if sign != wanted {
+            return None;
         }
+        self.rest = rest;
+        Some(first.span)
     }
 
     /// Takes a reserved word, where it is next.
@@ -75,16 +87,17 @@ impl<'t> Parser<'t> {
         ensures taken { IsKeyTaken wanted self.old result self.new }
         ensures stays { IfNone result (tokens_of self.new.rest.now ≡ tokens_of self.old.rest.now) }
     {
-        match self.rest {
-            [first, rest @ ..] => match first.symbol {
-                Symbol::Key(k) if k == wanted => {
-                    self.rest = rest;
-                    Some(first.span)
-                }
-                _ => None,
-            },
-            [] => None,
+        let [first, rest @ ..] = self.rest else {
+            return None;
+        };
+        let Symbol::Key(word) = first.symbol else {
+            return None;
+        };
+        if word != wanted {
+            return None;
         }
+        self.rest = rest;
+        Some(first.span)
     }
 
     /// Whether a sign is next.

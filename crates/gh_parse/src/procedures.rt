@@ -6,7 +6,7 @@ ghost use Rattle.gh_parse.specs.Stops.{EndsHere};
 ghost use Rattle.gh_parse.specs.Answers.{IsReadBy};
 ghost use Rattle.gh_parse.specs.Procedures.{AddsLocals, SpellsHeading, heading_of, SpellsEnded, ended_of};
 
-use crate::cursor::Parser;
+use crate::cursor::{Parser, paired};
 use crate::error::ReadError;
 use gh_ast::sign::{Keyword, Sign};
 use gh_ast::{Body, Occ, Procedure};
@@ -136,9 +136,12 @@ impl<'t> Parser<'t> {
         ensures { IsReadBy EndsHere SpellsProcedure self.old procedure_of result self.new }
     {
         let heading = self.heading(alloc)?;
-        let needs = self.clause(alloc, Keyword::Requires)?;
-        let gives = self.ensured(alloc)?;
-        let ending = self.ending(alloc)?;
+        let (heading, needs) = paired(heading, self.clause(alloc, Keyword::Requires))?;
+        let ((heading, needs), gives) = paired((heading, needs), self.ensured(alloc))?;
+        let ((heading, needs, gives), ending) = paired(
+            (heading, needs, gives),
+            self.ending(alloc),
+        )?;
         Ok(Procedure {
             name: heading.name,
             parameters: heading.parameters,

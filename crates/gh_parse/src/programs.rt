@@ -1,6 +1,6 @@
 //! Fields, and whole programs.
 
-ghost use Rattle.std.specs.Prelude.{◌≡◌, ◌↔◌, [], IsTrue, map};
+ghost use Rattle.std.specs.Prelude.{◌≡◌, ◌≢◌, ◌↔◌, [], IsTrue, IfOk, IfErr, map};
 ghost use Rattle.gh_ast.specs.Grammar.{SpellsWord, SpellsProgram};
 ghost use Rattle.gh_ast.specs.Tokens.{keyword_text};
 ghost use Rattle.gh_ast.specs.Plain.{procedure_of, program_of};
@@ -30,6 +30,17 @@ impl<'t> Parser<'t> {
         ensures { IsTrue result ↔ (tokens_of self.now.rest.now ≡ []) }
     {
         self.rest.is_empty()
+    }
+
+    /// An error where a token is left.
+    pub fn expect_end(&self) -> Result<(), ReadError>
+        ensures ok { IfOk result (λ _. tokens_of self.now.rest.now ≡ []) }
+        ensures err { IfErr result (λ _. tokens_of self.now.rest.now ≢ []) }
+    {
+        if self.is_end() {
+            return Ok(());
+        }
+        Err(ReadError::Unexpected)
     }
 
     /// Reads a name, or a reserved word as if it were one.

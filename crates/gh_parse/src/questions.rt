@@ -8,7 +8,7 @@ ghost use Rattle.gh_parse.specs.Procedures.{SpellsToEnd};
 ghost use Rattle.gh_parse.specs.Questions.{SpellsWhole, SpellsClaims, claims_of};
 ghost use Rattle.gh_ast.specs.QuestionGrammar.{SpellsClaim};
 
-use crate::cursor::Parser;
+use crate::cursor::{Parser, paired};
 use crate::error::ReadError;
 use gh_ast::Occ;
 use gh_ast::question::{Claim, Question};
@@ -57,7 +57,7 @@ impl<'t> Parser<'t> {
     {
         let claim = self.claim(alloc)?;
         let left = self.expect_key(Keyword::Ensures).and(Ok(claim))?;
-        let right = self.last_claim(alloc)?;
+        let (left, right) = paired(left, self.last_claim(alloc))?;
         Ok(Claims { left, right })
     }
 
@@ -66,9 +66,6 @@ impl<'t> Parser<'t> {
         ensures { IsReadBy IsEnd (SpellsWhole SpellsClaim) self.old claim_of result self.new }
     {
         let claim = self.claim(alloc)?;
-        if !self.is_end() {
-            return Err(ReadError::Unexpected);
-        }
-        Ok(claim)
+        self.expect_end().and(Ok(claim))
     }
 }

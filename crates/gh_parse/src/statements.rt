@@ -7,7 +7,7 @@ ghost use Rattle.gh_parse.specs.Stops.{EndsHere};
 ghost use Rattle.gh_parse.specs.Answers.{IsReadBy, HasKey};
 ghost use Rattle.gh_parse.specs.Statements.{SpellsPart, SpellsOtherwise, SpellsRepeated, repeat_of, SpellsRun};
 
-use crate::cursor::Parser;
+use crate::cursor::{Parser, paired};
 use crate::error::ReadError;
 use gh_ast::sign::{Keyword, Sign};
 use gh_ast::{Assertion, Block, Stmt};
@@ -52,8 +52,9 @@ impl<'t> Parser<'t> {
     {
         self.expect_key(Keyword::If)?;
         let test = self.enclosed_test(alloc, true)?;
-        let taken = self.block(alloc)?;
-        let otherwise = self.otherwise(alloc, taken.close)?;
+        let (test, taken) = paired(test, self.block(alloc))?;
+        let close = taken.close;
+        let ((test, taken), otherwise) = paired((test, taken), self.otherwise(alloc, close))?;
         Ok(Stmt::If {
             test,
             taken,
@@ -84,7 +85,7 @@ impl<'t> Parser<'t> {
     {
         let span = self.expect_key(Keyword::While)?;
         let test = self.enclosed_test(alloc, true)?;
-        let repeated = self.repeated(alloc)?;
+        let (test, repeated) = paired(test, self.repeated(alloc))?;
         Ok(Stmt::While {
             span,
             test,
@@ -99,7 +100,7 @@ impl<'t> Parser<'t> {
         ensures { IsReadBy EndsHere SpellsRepeated self.old repeat_of result self.new }
     {
         let invariant = self.clause(alloc, Keyword::Invariant)?;
-        let body = self.block(alloc)?;
+        let (invariant, body) = paired(invariant, self.block(alloc))?;
         Ok(Repeated { invariant, body })
     }
 

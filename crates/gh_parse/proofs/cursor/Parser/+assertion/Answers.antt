@@ -1,11 +1,12 @@
-use Rattle.std.proofs.Common.{refl, arith, ap, length}
+use Rattle.std.proofs.Common.{refl, arith, ap, length, ◌∙◌}
 use Rattle.gh_ast.specs.Tokens.{first_place}
 use Rattle.gh_ast.specs.Plain.{star, formula_first, no_formulas, formula_of}
 use Rattle.gh_ast.proofs.Shorter.{shorter_item}
 use Rattle.gh_parse.specs.Stops.{any, IsAny}
+use Rattle.gh_parse.specs.Assertions.{SpellsBraced}
 use Rattle.gh_parse.proofs.Rules.{by, form, told, first, first_any, form_first, next, after, after_between, breaks_tok, each, of_any, ends_tok, ends_seq, ends_opt, sentences_tok}
-use Rattle.gh_parse.proofs.Exits.{exit, exit_missing, along, missing}
-use Rattle.gh_parse.proofs.Folds.{formula_of-emp, formula_of-cases, formula_of-star, formulas_before}
+use Rattle.gh_parse.proofs.Exits.{exit, exit_missing, along, missing, gave, refused, taken_and, missing_and}
+use Rattle.gh_parse.proofs.Folds.{formula_of-emp, formula_of-cases_as, formula_of-star, formulas_before}
 use Rattle.gh_parse.proofs.Turns.{chain_more, chain_last, fewer}
 use Rattle.gh_parse.proofs.TestForms.{closed, make_between, part_between, exact_guard}
 use Rattle.gh_parse.proofs.AssertionForms.{assertion_alone, assertion_start, items_rest, items_more, items_last, make_assertion, part_assertion, make_items, part_items, make_choice, part_choice}
@@ -57,43 +58,52 @@ cases-braced-requires t c =
     let h = shorter_choosing _ _ _ c.in_ok-test.ensures in
     (omega (arith, e, h), tt)
 
-pub cases-returns-in_err-yes : goal.cases-returns-in_err-yes
-cases-returns-in_err-yes t c =
+pub cases-returns-in_err-test-2 : goal.cases-returns-in_err-test-2
+cases-returns-in_err-test-2 t c =
     exit _ _ _
     (λ s. by make_choice (told _ _ _ c.in_ok-expect_key.ensures part_choice)
-    (after _ c.in_ok-expect_key.ensures (next exact_guard (any c.in_ok-test.ensures) (first_any (sentences_tok first_place (ends_braced _)) s)))) c.in_err-yes.ensures
-    c.from_residual-in_err-yes.ensures.1
+    (after _ c.in_ok-expect_key.ensures (next exact_guard (any c.in_ok-test.ensures) (first_any (sentences_tok first_place (ends_braced _)) s))))
+    (refused _ _ _ _ (λ b. formula_of b.value) _ c.in_err-test-2.ensures.second c.braced.ensures) c.from_residual-in_err-test-2.ensures.1
 
-pub cases-returns-in_err-expect_key-2 : goal.cases-returns-in_err-expect_key-2
-cases-returns-in_err-expect_key-2 t c =
+pub cases-returns-in_err-test-3 : goal.cases-returns-in_err-test-3
+cases-returns-in_err-test-3 t c =
+    let yes = gave IsAny SpellsBraced _ _ (λ b. formula_of b.value) _ c.in_ok-test-2.ensures.second c.braced.ensures in
     exit_missing _ _ _ _
     (λ n. by make_choice (told _ _ _ c.in_ok-expect_key.ensures part_choice)
     (after _ c.in_ok-expect_key.ensures
     (next exact_guard (any c.in_ok-test.ensures)
     (form_first make_between part_between
-    (after_between (each exact_assertion) (part_between _ _ (any c.in_ok-yes.ensures)) (breaks_tok first_place (ends_braced _) n)))))) c.in_err-expect_key-2.ensures
-    c.from_residual-in_err-expect_key-2.ensures.1
+    (after_between (each exact_assertion) (part_between _ _ (any yes)) (breaks_tok first_place (ends_braced _) n))))))
+    (missing_and _ _ _ _ _ _ c.in_err-test-3.ensures c.expect_key-2.ensures) c.from_residual-in_err-test-3.ensures.1
 
 pub cases-braced-requires-2 : goal.cases-braced-requires-2
 cases-braced-requires-2 t c =
+    let yes = gave IsAny SpellsBraced _ _ (λ b. formula_of b.value) _ c.in_ok-test-2.ensures.second c.braced.ensures in
+    let word = taken_and _ _ _ _ _ _ c.in_ok-test-3.ensures c.expect_key-2.ensures in
     let e = ap length c.in_ok-expect_key.ensures in
     let h = shorter_choosing _ _ _ c.in_ok-test.ensures in
-    let i = shorter_braced _ _ _ c.in_ok-yes.ensures in
-    let f = ap length c.in_ok-expect_key-2.ensures in
+    let i = shorter_braced _ _ _ yes in
+    let f = ap length word.2 in
     (omega (arith, e, h, i, f), tt)
 
-pub cases-returns-in_err-no : goal.cases-returns-in_err-no
-cases-returns-in_err-no t c =
+pub cases-returns-in_err-test-4 : goal.cases-returns-in_err-test-4
+cases-returns-in_err-test-4 t c =
+    let yes = gave IsAny SpellsBraced _ _ (λ b. formula_of b.value) _ c.in_ok-test-2.ensures.second c.braced.ensures in
+    let word = taken_and _ _ _ _ _ _ c.in_ok-test-3.ensures c.expect_key-2.ensures in
     exit _ _ _
     (λ s. by make_choice (told _ _ _ c.in_ok-expect_key.ensures part_choice)
     (after _ c.in_ok-expect_key.ensures
-    (next exact_guard (any c.in_ok-test.ensures) (next exact_braced (any c.in_ok-yes.ensures) (after _ c.in_ok-expect_key-2.ensures (of_any s)))))) c.in_err-no.ensures
-    c.from_residual-in_err-no.ensures.1
+    (next exact_guard (any c.in_ok-test.ensures) (next exact_braced (any yes) (after _ word.2 (of_any s))))))
+    (refused _ _ _ _ (λ b. formula_of b.value) _ c.in_err-test-4.ensures.second c.braced-2.ensures) c.from_residual-in_err-test-4.ensures.1
 
 pub cases-returns : goal.cases-returns
 cases-returns t c =
-    rw (formula_of-cases c.in_ok-test.test c.in_ok-yes.yes c.in_ok-no.no)
-    (chosen c.in_ok-expect_key.ensures c.in_ok-test.ensures c.in_ok-yes.ensures c.in_ok-expect_key-2.ensures c.in_ok-no.ensures)
+    let yes = gave IsAny SpellsBraced _ _ (λ b. formula_of b.value) _ c.in_ok-test-2.ensures.second c.braced.ensures in
+    let word = taken_and _ _ _ _ _ _ c.in_ok-test-3.ensures c.expect_key-2.ensures in
+    let no = gave IsAny SpellsBraced _ _ (λ b. formula_of b.value) _ c.in_ok-test-4.ensures.second c.braced-2.ensures in
+    let e = c.in_ok-test-4.ensures.first ∙ word.0 in
+    rw (formula_of-cases_as c.in_ok-test-4.no (ap (λ p. p.0) e ∙ c.in_ok-test-2.ensures.first) (ap (λ p. p.1) e))
+    (chosen c.in_ok-expect_key.ensures c.in_ok-test.ensures yes word.2 no)
 
 pub braced-returns-in_err-inner : goal.braced-returns-in_err-inner
 braced-returns-in_err-inner t c = exit _ _ _ (λ s. s) c.in_err-inner.ensures c.from_residual.ensures.1

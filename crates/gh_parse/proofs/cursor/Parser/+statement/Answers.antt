@@ -1,11 +1,11 @@
-use Rattle.std.proofs.Common.{refl, arith}
+use Rattle.std.proofs.Common.{refl, arith, ap, ◌∙◌}
 use Rattle.gh_ast.specs.Tokens.{first_place}
 use Rattle.gh_ast.specs.Plain.{part_of}
 use Rattle.gh_ast.proofs.ShorterStatement.{shorter_statement}
-use Rattle.gh_parse.specs.Stops.{any}
-use Rattle.gh_parse.specs.Statements.{no_else}
+use Rattle.gh_parse.specs.Stops.{any, EndsHere}
+use Rattle.gh_parse.specs.Statements.{no_else, SpellsPart, SpellsOtherwise, SpellsRepeated, repeat_of}
 use Rattle.gh_parse.proofs.Rules.{by, form, told, begins_not, first, next, after, in_opt, ends_seq, ends_opt}
-use Rattle.gh_parse.proofs.Exits.{exit, along, missing}
+use Rattle.gh_parse.proofs.Exits.{exit, along, missing, gave, refused}
 use Rattle.gh_parse.proofs.StatementViews.{if_view, while_view, part_view, close_view, empty_view}
 use Rattle.gh_parse.proofs.ValueForms.{a_name}
 use Rattle.gh_parse.proofs.TestForms.{exact_guard}
@@ -33,28 +33,34 @@ pub if_statement-block-requires : goal.if_statement-block-requires
 if_statement-block-requires t c =
     let h = guarded_less c.in_ok-expect_key.ensures c.in_ok-test.ensures in (omega arith, tt)
 
-pub if_statement-returns-in_err-taken : goal.if_statement-returns-in_err-taken
-if_statement-returns-in_err-taken t c =
+pub if_statement-returns-in_err-test-2 : goal.if_statement-returns-in_err-test-2
+if_statement-returns-in_err-test-2 t c =
     exit _ _ _
     (λ s. by make_if (told _ _ _ c.in_ok-expect_key.ensures part_if)
-    (after _ c.in_ok-expect_key.ensures (next exact_guard (any c.in_ok-test.ensures) (first (ends_opt (λ p. refl)) s)))) c.in_err-taken.ensures
-    c.from_residual-in_err-taken.ensures.1
+    (after _ c.in_ok-expect_key.ensures (next exact_guard (any c.in_ok-test.ensures) (first (ends_opt (λ p. refl)) s))))
+    (refused _ _ _ _ part_of _ c.in_err-test-2.ensures.second c.block.ensures) c.from_residual-in_err-test-2.ensures.1
 
 pub if_statement-otherwise-requires : goal.if_statement-otherwise-requires
 if_statement-otherwise-requires t c =
-    let h = otherwise_less {b = part_of c.in_ok-taken.taken} c.in_ok-expect_key.ensures c.in_ok-test.ensures c.in_ok-taken.ensures in (omega arith, tt)
+    let taken = gave EndsHere SpellsPart _ _ part_of _ c.in_ok-test-2.ensures.second c.block.ensures in
+    let h = otherwise_less {b = part_of c.in_ok-test-2.taken} c.in_ok-expect_key.ensures c.in_ok-test.ensures taken in (omega arith, tt)
 
-pub if_statement-returns-in_err-otherwise : goal.if_statement-returns-in_err-otherwise
-if_statement-returns-in_err-otherwise t c =
+pub if_statement-returns-in_err-test-3 : goal.if_statement-returns-in_err-test-3
+if_statement-returns-in_err-test-3 t c =
+    let taken = gave EndsHere SpellsPart _ _ part_of _ c.in_ok-test-2.ensures.second c.block.ensures in
     exit _ _ _
     (λ s. by make_if (told _ _ _ c.in_ok-expect_key.ensures part_if)
     (after _ c.in_ok-expect_key.ensures
-    (next exact_guard (any c.in_ok-test.ensures) (next exact_part (any {x = part_of c.in_ok-taken.taken} c.in_ok-taken.ensures) (form part_otherwise make_otherwise s)))))
-    c.in_err-otherwise.ensures c.from_residual-in_err-otherwise.ensures.1
+    (next exact_guard (any c.in_ok-test.ensures) (next exact_part (any {x = part_of c.in_ok-test-2.taken} taken) (form part_otherwise make_otherwise s)))))
+    (refused _ _ _ _ part_of _ c.in_err-test-3.ensures.second c.otherwise.ensures) c.from_residual-in_err-test-3.ensures.1
 
 pub if_statement-returns : goal.if_statement-returns
 if_statement-returns t c =
-    rw if_view (either_spelled c.in_ok-expect_key.ensures c.in_ok-test.ensures c.in_ok-taken.ensures c.in_ok-otherwise.ensures (close_view c.in_ok-taken.taken))
+    let taken = gave EndsHere SpellsPart _ _ part_of _ c.in_ok-test-2.ensures.second c.block.ensures in
+    let otherwise = gave EndsHere (SpellsOtherwise c.in_ok-test-2.taken.close) _ _ part_of _ c.in_ok-test-3.ensures.second c.otherwise.ensures in
+    let e = c.in_ok-test-3.ensures.first in
+    rw (ap (λ p. p.0) e ∙ c.in_ok-test-2.ensures.first, ap (λ p. p.1) e)
+    (rw if_view (either_spelled c.in_ok-expect_key.ensures c.in_ok-test.ensures taken otherwise (close_view c.in_ok-test-2.taken)))
 
 pub otherwise-returns-then-not-is_key : goal.otherwise-returns-then-not-is_key
 otherwise-returns-then-not-is_key t c = rw (empty_view c.new.result c.args.close c.new.ensures.items) (no_else c.if-not-is_key.ensures)
@@ -101,17 +107,18 @@ pub while_statement-repeated-requires : goal.while_statement-repeated-requires
 while_statement-repeated-requires t c =
     let h = guarded_less c.in_ok-span.ensures c.in_ok-test.ensures in (omega arith, tt)
 
-pub while_statement-returns-in_err-repeated : goal.while_statement-returns-in_err-repeated
-while_statement-returns-in_err-repeated t c =
+pub while_statement-returns-in_err-test-2 : goal.while_statement-returns-in_err-test-2
+while_statement-returns-in_err-test-2 t c =
     exit _ _ _
     (λ s. by make_while (told _ _ _ c.in_ok-span.ensures part_while)
-    (after _ c.in_ok-span.ensures (next exact_guard (any c.in_ok-test.ensures) (form part_repeat make_repeat s)))) c.in_err-repeated.ensures
-    c.from_residual-in_err-repeated.ensures.1
+    (after _ c.in_ok-span.ensures (next exact_guard (any c.in_ok-test.ensures) (form part_repeat make_repeat s))))
+    (refused _ _ _ _ repeat_of _ c.in_err-test-2.ensures.second c.repeated.ensures) c.from_residual-in_err-test-2.ensures.1
 
 pub while_statement-returns : goal.while_statement-returns
 while_statement-returns t c =
-    rw while_view
-    (while_spelled {b = part_of c.in_ok-repeated.repeated.body} c.in_ok-span.ensures c.in_ok-test.ensures c.in_ok-repeated.ensures.invariant c.in_ok-repeated.ensures.body)
+    let repeated = gave EndsHere SpellsRepeated _ _ repeat_of _ c.in_ok-test-2.ensures.second c.repeated.ensures in
+    rw (c.in_ok-test-2.ensures.first, while_view)
+    (while_spelled {b = part_of c.in_ok-test-2.repeated.body} c.in_ok-span.ensures c.in_ok-test.ensures repeated.invariant repeated.body)
 
 pub repeated-returns-in_err-invariant : goal.repeated-returns-in_err-invariant
 repeated-returns-in_err-invariant t c =
@@ -120,10 +127,12 @@ repeated-returns-in_err-invariant t c =
 pub repeated-block-requires : goal.repeated-block-requires
 repeated-block-requires t c = let h = body_less c.in_ok-invariant.ensures in (omega arith, tt)
 
-pub repeated-returns-in_err-body : goal.repeated-returns-in_err-body
-repeated-returns-in_err-body t c =
-    exit _ _ _ (λ s. form make_repeat part_repeat (next (exact_clause (λ p. refl)) (any c.in_ok-invariant.ensures) s)) c.in_err-body.ensures
-    c.from_residual-in_err-body.ensures.1
+pub repeated-returns-in_err-invariant-2 : goal.repeated-returns-in_err-invariant-2
+repeated-returns-in_err-invariant-2 t c =
+    exit _ _ _ (λ s. form make_repeat part_repeat (next (exact_clause (λ p. refl)) (any c.in_ok-invariant.ensures) s))
+    (refused _ _ _ _ part_of _ c.in_err-invariant-2.ensures.second c.block.ensures) c.from_residual-in_err-invariant-2.ensures.1
 
 pub repeated-returns : goal.repeated-returns
-repeated-returns t c = repeat_spelled {b = part_of c.in_ok-body.body} c.in_ok-invariant.ensures c.in_ok-body.ensures
+repeated-returns t c =
+    let body = gave EndsHere SpellsPart _ _ part_of _ c.in_ok-invariant-2.ensures.second c.block.ensures in
+    rw c.in_ok-invariant-2.ensures.first (repeat_spelled {b = part_of c.in_ok-invariant-2.body} c.in_ok-invariant.ensures body)

@@ -1,7 +1,8 @@
 use Rattle.std.proofs.Common.{refl}
 use Rattle.gh_ast.specs.Tokens.{first_place}
+use Rattle.gh_ast.specs.Plain.{statement_of}
 use Rattle.gh_parse.proofs.Rules.{first, after, first_then, next_then, ends_tok}
-use Rattle.gh_parse.proofs.Exits.{exit, missing}
+use Rattle.gh_parse.proofs.Exits.{exit, missing, ending}
 use Rattle.gh_parse.proofs.StatementViews.{set_view, new_view, call_view}
 use Rattle.gh_parse.proofs.ValueForms.{exact_as_expr}
 use Rattle.gh_parse.proofs.CallForms.{in_new, new_spelled, in_set, ends_of_set, in_end, no_callee, in_called, set_spelled, one_call_spelled}
@@ -24,13 +25,11 @@ pub returns-in_err-value : goal.returns-in_err-value
 returns-in_err-value c =
     exit _ _ _ (λ s. in_set c.in_ok-expect_sign.ensures c.if-is_key.ensures (first_then ends_of_set s)) c.in_err-value.ensures c.from_residual-in_err-value.ensures.1
 
-pub returns-in_err-expect_sign-3 : goal.returns-in_err-expect_sign-3
-returns-in_err-expect_sign-3 c =
-    exit _ _ _ (λ s. in_set c.in_ok-expect_sign.ensures c.if-is_key.ensures (next_then exact_as_expr c.in_ok-value.ensures (in_end c.if-not-is_sign.ensures s)))
-    (missing _ _ _ _ _ first_place refl c.in_err-expect_sign-3.ensures) c.from_residual-in_err-expect_sign-3.ensures.1
-
 pub returns-then-not-is_sign : goal.returns-then-not-is_sign
-returns-then-not-is_sign c = rw set_view (set_spelled c.in_ok-expect_sign.ensures c.in_ok-value.ensures c.in_ok-expect_sign-3.ensures)
+returns-then-not-is_sign c = rw c.and.ensures (ending statement_of _ _ first_place refl
+    (λ q e. rw set_view (set_spelled c.in_ok-expect_sign.ensures c.in_ok-value.ensures e))
+    (λ s. in_set c.in_ok-expect_sign.ensures c.if-is_key.ensures (next_then exact_as_expr c.in_ok-value.ensures (in_end c.if-not-is_sign.ensures s)))
+    c.expect_sign-then-not-is_sign.ensures)
 
 pub returns-in_default : goal.returns-in_default
 returns-in_default c =

@@ -1,8 +1,9 @@
 use Rattle.std.proofs.Common.{refl}
 use Rattle.gh_ast.specs.Tokens.{first_place}
+use Rattle.gh_ast.specs.Plain.{statement_of}
 use Rattle.gh_parse.specs.Stops.{any}
 use Rattle.gh_parse.proofs.Rules.{by, told, first, next, after, ends_tok, ends_seq}
-use Rattle.gh_parse.proofs.Exits.{exit, missing}
+use Rattle.gh_parse.proofs.Exits.{exit, missing, ending}
 use Rattle.gh_parse.proofs.StatementViews.{write_view}
 use Rattle.gh_parse.proofs.ValueForms.{exact_expr, ends_expr}
 use Rattle.gh_parse.proofs.CallForms.{make_write, part_write, write_spelled}
@@ -29,13 +30,9 @@ returns-in_err-value c =
     (after _ c.in_ok-expect_sign.ensures (after _ c.in_ok-expect_key.ensures (after _ c.in_ok-expect_sign-2.ensures (first (ends_tok first_place refl) s)))))
     c.in_err-value.ensures c.from_residual-in_err-value.ensures.1
 
-pub returns-in_err-expect_sign-3 : goal.returns-in_err-expect_sign-3
-returns-in_err-expect_sign-3 c =
-    exit _ _ _
+pub returns : goal.returns
+returns c = rw c.and.ensures (ending statement_of _ _ first_place refl
+    (λ q e. rw write_view (write_spelled c.in_ok-expect_sign.ensures c.in_ok-expect_key.ensures c.in_ok-expect_sign-2.ensures c.in_ok-value.ensures e))
     (λ s. by make_write (told _ _ _ c.requires.2 part_write)
     (after _ c.in_ok-expect_sign.ensures (after _ c.in_ok-expect_key.ensures (after _ c.in_ok-expect_sign-2.ensures (next exact_expr (any c.in_ok-value.ensures) s)))))
-    (missing _ _ _ _ _ first_place refl c.in_err-expect_sign-3.ensures) c.from_residual-in_err-expect_sign-3.ensures.1
-
-pub returns : goal.returns
-returns c =
-    rw write_view (write_spelled c.in_ok-expect_sign.ensures c.in_ok-expect_key.ensures c.in_ok-expect_sign-2.ensures c.in_ok-value.ensures c.in_ok-expect_sign-3.ensures)
+    c.expect_sign-3.ensures)
