@@ -68,6 +68,24 @@ impl<'t> Walker<'t> {
         Ok(place)
     }
 
+    /// The reads of a comparison's sides before a node.
+    fn lower_sides(
+        &self,
+        left: &'t Expr,
+        right: &'t Expr,
+        next: usize,
+        nodes: &mut Nodes<'t>,
+    ) -> Result<usize, AllocError>
+        requires below { next < length nodes.now }
+        ensures grows { IfOk result (Grows nodes.old nodes.new) }
+        ensures adds { IfOk result
+            (AddsBefore (λ g. reads left.now (reads right.now g)) nodes.old next nodes.new) }
+    {
+        let second = self.lower_read(right, next, nodes)?;
+        let first = self.lower_read(left, second, nodes)?;
+        Ok(first)
+    }
+
     /// A test that leads to one of two nodes.
     #[cycle(lower_test)]
     pub(crate) fn lower_test(
@@ -92,13 +110,11 @@ impl<'t> Walker<'t> {
                     no,
                 };
                 let fork = nodes.add(fork)?;
-                let second = self.lower_read(right, fork, nodes)?;
-                let first = self.lower_read(left, second, nodes)?;
-                Ok(first)
+                self.lower_sides(left, right, fork, nodes)
             }
-            Cond::Not(inner) => Ok(self.lower_test(inner, no, yes, nodes)?),
-            Cond::And(members) => Ok(self.lower_all(members.as_slice(), yes, no, nodes)?),
-            Cond::Or(members) => Ok(self.lower_some(members.as_slice(), yes, no, nodes)?),
+            Cond::Not(inner) => self.lower_test(inner, no, yes, nodes),
+            Cond::And(members) => self.lower_all(members.as_slice(), yes, no, nodes),
+            Cond::Or(members) => self.lower_some(members.as_slice(), yes, no, nodes),
         }
     }
 

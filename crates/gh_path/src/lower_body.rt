@@ -1,7 +1,7 @@
 //! Nodes for statements, and the starts of a procedure.
 
 ghost use Rattle.std.specs.Prelude.{◌≡◌, ◌<◌, length, slice_index, IfOk};
-ghost use Rattle.gh_ast.specs.Plain.{statement_of, statements_view, set, write, free, call, give};
+ghost use Rattle.gh_ast.specs.Plain.{statement_of, statements_view, set, new, write, free, call, give};
 ghost use Rattle.gh_ast.specs.Limits.{AreFew};
 ghost use Rattle.gh_path.specs.Callees.{IsKnown};
 ghost use Rattle.gh_path.specs.Lowered.{program_in, Suits, AllSuit, EachSuits, SuitEach, SuitsAt};
@@ -54,6 +54,21 @@ impl<'t> Walker<'t> {
         let place = nodes.add(Node::Moves { step, next })?;
         let first = self.lower_read(value, place, nodes)?;
         Ok(first)
+    }
+
+    fn lower_new(
+        &self,
+        target: &'t Occ,
+        next: usize,
+        nodes: &mut Nodes<'t>,
+    ) -> Result<usize, AllocError>
+        requires below { next < length nodes.now }
+        ensures grows { IfOk result (Grows nodes.old nodes.new) }
+        ensures adds { IfOk result (AddsPlain self.now (new target.now) nodes.old next nodes.new) }
+    {
+        let step = Step::New { target };
+        let place = nodes.add(Node::Moves { step, next })?;
+        Ok(place)
     }
 
     fn lower_write(
@@ -183,11 +198,7 @@ impl<'t> Walker<'t> {
     {
         match statement {
             Stmt::Set { target, value } => self.lower_set(target, value, next, nodes),
-            Stmt::New { target } => {
-                let step = Step::New { target };
-                let place = nodes.add(Node::Moves { step, next })?;
-                Ok(place)
-            }
+            Stmt::New { target } => self.lower_new(target, next, nodes),
             Stmt::Write { at, value } => self.lower_write(at, value, next, nodes),
             Stmt::Free { at } => self.lower_free(at, next, nodes),
             Stmt::Call {
@@ -211,15 +222,10 @@ impl<'t> Walker<'t> {
                 let later = first.saturating_add(count_all_loops(taken));
                 let yes = self.lower_block(alloc, taken, first, next, nodes)?;
                 let no = self.lower_block(alloc, otherwise, later, next, nodes)?;
-                let place = self.lower_test(test, yes, no, nodes)?;
-                Ok(place)
+                self.lower_test(test, yes, no, nodes)
             }
-            Stmt::While { span, test, .. } => {
-                Ok(self.lower_pass(*span, test, first, next, nodes)?)
-            }
-            Stmt::Return { span, values } => {
-                Ok(self.lower_give(*span, values.as_slice(), nodes)?)
-            }
+            Stmt::While { span, test, .. } => self.lower_pass(*span, test, first, next, nodes),
+            Stmt::Return { span, values } => self.lower_give(*span, values.as_slice(), nodes),
         }
     }
 

@@ -1,12 +1,13 @@
 use Rattle.std.proofs.Common.{◌≡◌, ◌∙◌, ◌+◌, ◌-◌, ◌<◌, ◌++◌, ◌≤◌, length, get_or, min, refl, ap, subst, arith}
 use Rattle.std.proofs.lemmas.List.{length-append}
-use Rattle.gh_ast.specs.Plain.{program_of, part_of, test_of, statement_of, statements_view, choice, new, Statement}
-use Rattle.gh_ast.proofs.PlainLemmas.{statement_of-New, statement_of-While, statement_of-Return}
-use Rattle.gh_path.specs.Graphs.{made, loops, all_loops, lowered, all_lowered, tested}
-use Rattle.gh_path.specs.Lowered.{first_loops}
+use Rattle.std.proofs.lemmas.Result.{IfOk-weaker}
+use Rattle.gh_ast.specs.Plain.{program_of, part_of, test_of, statement_of, statements_view, choice, give, Statement}
+use Rattle.gh_ast.proofs.PlainLemmas.{statement_of-While, statement_of-Return}
+use Rattle.gh_path.specs.Graphs.{loops, all_loops, lowered, all_lowered, tested}
+use Rattle.gh_path.specs.Lowered.{first_loops, Grows, AddsChoice, AddsEnd, AddsPass, AddsStatement}
 use Rattle.gh_path.specs.Shown.{AddsNodes}
 use Rattle.gh_path.proofs.NumberLemmas.{choice_at}
-use Rattle.gh_path.proofs.ShownLemmas.{add_move, then, still}
+use Rattle.gh_path.proofs.ShownLemmas.{then, still}
 use Rattle.gh_path.proofs.LowerLemmas.{block_more, block_whole, statement_is, loops_from, loops_at, first_loop}
 use Rattle.gh_path.proofs.walker.Walker.+lower_body.Goals as goal
 
@@ -49,14 +50,14 @@ lower_block-returns-clause-adds t c = λ g shows.
     let sum : n + loops_from c.loop-left.left ss ≡ n + length (all_loops (statements_view ss)) = ap (λ k. n + loops_from k ss) none in
     block_whole (program_of c.args.self.now.program.now) c.args.nodes.now c.loop-left.nodes ss n c.loop-left.left c.loop-left.place g none (c.loop-left.invariant.adds n g sum shows)
 
-pub lower_statement-returns-in_ok-place-in-New-clause-adds : goal.lower_statement-returns-in_ok-place-in-New-clause-adds
-lower_statement-returns-in_ok-place-in-New-clause-adds t c = λ g shows.
-    let P = program_of c.args.self.now.program.now in
-    statement_is P c.args.first c.args.nodes.now c.add.new.self c.in_ok-place-in-New.place (statement_of c.args.statement.now) (new c.in-New.target) g (ap statement_of c.in-New.is ∙ statement_of-New c.in-New.target)
-    (add_move c.args.nodes.now c.add.new.self c.in_ok-place-in-New.place c.args.next _ (made c.in-New.target) g c.in_ok-place-in-New.ensures.added c.in_ok-place-in-New.ensures.place refl shows)
+pub lower_statement-returns-in_ok-no-in-If-clause-grows : goal.lower_statement-returns-in_ok-no-in-If-clause-grows
+lower_statement-returns-in_ok-no-in-If-clause-grows t c =
+    IfOk-weaker c.lower_test.result (Grows c.lower_block-in-If.new.nodes c.lower_test.new.nodes) (Grows c.args.nodes.now c.lower_test.new.nodes)
+    (λ i grows. (omega (arith, grows.0, c.in_ok-yes-in-If.ensures.grows.0, c.in_ok-no-in-If.ensures.grows.0), grows.1))
+    c.lower_test.ensures.grows
 
-pub lower_statement-returns-in_ok-place-in-If-clause-adds : goal.lower_statement-returns-in_ok-place-in-If-clause-adds
-lower_statement-returns-in_ok-place-in-If-clause-adds t c = λ g shows.
+pub lower_statement-returns-in_ok-no-in-If-clause-adds : goal.lower_statement-returns-in_ok-no-in-If-clause-adds
+lower_statement-returns-in_ok-no-in-If-clause-adds t c =
     let P = program_of c.args.self.now.program.now in
     let ns = c.args.nodes.now in
     let n = c.args.first in
@@ -65,6 +66,7 @@ lower_statement-returns-in_ok-place-in-If-clause-adds t c = λ g shows.
     let x = test_of c.in-If.test in
     let n1 = c.lower_block.new.nodes in
     let n2 = c.lower_block-in-If.new.nodes in
+    let n3 = c.lower_test.new.nodes in
     let yes = c.in_ok-yes-in-If.yes in
     let no = c.in_ok-no-in-If.no in
     let s : Statement = choice x a (part_of c.in-If.taken).close b (part_of c.in-If.otherwise).close in
@@ -73,26 +75,36 @@ lower_statement-returns-in_ok-place-in-If-clause-adds t c = λ g shows.
     let m = n + length (all_loops a) in
     let sum : c.saturating_add-later.result ≡ min (n + min (length (all_loops a)) 4294967295) 4294967295 = c.saturating_add-later.ensures ∙ ap (λ k. min (n + k) 4294967295) c.count_all_loops.ensures in
     let later : c.saturating_add-later.result ≡ m = omega (arith, sum, room, length-append (all_loops a) (all_loops b)) in
-    let g1 = all_lowered P n a g in
-    let g2 = all_lowered P m b g in
-    let one : AddsNodes ns n1 yes g1 = c.in_ok-yes-in-If.ensures.adds g shows in
-    let other : AddsNodes n1 n2 no (all_lowered P c.saturating_add-later.result b g) = c.in_ok-no-in-If.ensures.adds g (still ns n1 yes c.args.next g1 g one shows) in
-    let two : AddsNodes n1 n2 no g2 = subst (λ k. AddsNodes n1 n2 no (all_lowered P k b g)) later other in
-    let three = c.in_ok-place-in-If.ensures.adds g1 g2 (still n1 n2 no yes g2 g1 two one.shows) two.shows in
-    let both = then ns n1 n2 yes no g1 g2 one two in
-    statement_is P n ns c.lower_test.new.nodes c.in_ok-place-in-If.place (statement_of c.args.statement.now) s g is
-    (then ns n2 c.lower_test.new.nodes no c.in_ok-place-in-If.place g2 (tested x g1 g2) both three)
+    IfOk-weaker c.lower_test.result (AddsChoice (tested x) n2 yes no n3) (AddsStatement c.args.self.now c.args.statement.now n ns c.args.next n3)
+    (λ i adds g shows.
+        let g1 = all_lowered P n a g in
+        let g2 = all_lowered P m b g in
+        let one : AddsNodes ns n1 yes g1 = c.in_ok-yes-in-If.ensures.adds g shows in
+        let other : AddsNodes n1 n2 no (all_lowered P c.saturating_add-later.result b g) = c.in_ok-no-in-If.ensures.adds g (still ns n1 yes c.args.next g1 g one shows) in
+        let two : AddsNodes n1 n2 no g2 = subst (λ k. AddsNodes n1 n2 no (all_lowered P k b g)) later other in
+        let three = adds g1 g2 (still n1 n2 no yes g2 g1 two one.shows) two.shows in
+        let both = then ns n1 n2 yes no g1 g2 one two in
+        statement_is P n ns n3 i (statement_of c.args.statement.now) s g is (then ns n2 n3 no i g2 (tested x g1 g2) both three))
+    c.lower_test.ensures.adds
 
-pub lower_statement-returns-in_ok-lower_pass-in-While-clause-adds : goal.lower_statement-returns-in_ok-lower_pass-in-While-clause-adds
-lower_statement-returns-in_ok-lower_pass-in-While-clause-adds t c = λ g shows.
+pub lower_statement-returns-in-While-clause-adds : goal.lower_statement-returns-in-While-clause-adds
+lower_statement-returns-in-While-clause-adds t c =
     let P = program_of c.args.self.now.program.now in
+    let ns = c.args.nodes.now in
+    let after = c.lower_pass.new.nodes in
     let is = ap statement_of c.in-While.is ∙ statement_of-While c.in-While.span c.in-While.test c.in-While.invariant c.in-While.body in
-    statement_is P c.args.first c.args.nodes.now c.lower_pass.new.nodes c.in_ok-lower_pass-in-While.field-0 (statement_of c.args.statement.now) _ g is
-    (c.in_ok-lower_pass-in-While.ensures.adds g shows)
+    IfOk-weaker c.lower_pass.result (AddsPass c.in-While.span c.in-While.test c.args.first ns c.args.next after) (AddsStatement c.args.self.now c.args.statement.now c.args.first ns c.args.next after)
+    (λ i adds g shows. statement_is P c.args.first ns after i (statement_of c.args.statement.now) _ g is (adds g shows))
+    c.lower_pass.ensures.adds
 
-pub lower_statement-returns-in_ok-lower_give-in-Return-clause-adds : goal.lower_statement-returns-in_ok-lower_give-in-Return-clause-adds
-lower_statement-returns-in_ok-lower_give-in-Return-clause-adds t c = λ g shows.
+pub lower_statement-returns-in-Return-clause-adds : goal.lower_statement-returns-in-Return-clause-adds
+lower_statement-returns-in-Return-clause-adds t c =
     let P = program_of c.args.self.now.program.now in
+    let ns = c.args.nodes.now in
+    let after = c.lower_give.new.nodes in
+    let xs = c.as_slice-in-Return.result.now in
     let is = ap statement_of c.in-Return.is ∙ statement_of-Return c.in-Return.span c.in-Return.values in
-    statement_is P c.args.first c.args.nodes.now c.lower_give.new.nodes c.in_ok-lower_give-in-Return.field-0 (statement_of c.args.statement.now) _ g is
-    (rw c.as_slice-in-Return.ensures.value at (c.in_ok-lower_give-in-Return.ensures.adds g))
+    IfOk-weaker c.lower_give.result (AddsEnd c.args.self.now (give c.in-Return.span xs) ns after) (AddsStatement c.args.self.now c.args.statement.now c.args.first ns c.args.next after)
+    (λ i adds g shows.
+        statement_is P c.args.first ns after i (statement_of c.args.statement.now) _ g is (rw c.as_slice-in-Return.ensures.value at (adds g)))
+    c.lower_give.ensures.adds

@@ -1,7 +1,9 @@
 use Rattle.std.proofs.Common.{◌≡◌, ◌∙◌, ◌+◌, ◌-◌, ap, arith}
+use Rattle.std.proofs.lemmas.Result.{IfOk-weaker}
 use Rattle.gh_ast.specs.Plain.{test_of, tests_view, compare, conjunction, disjunction}
 use Rattle.gh_ast.proofs.PlainLemmas.{test_of-Compare, test_of-And, test_of-Or}
-use Rattle.gh_path.specs.Graphs.{reads, fork}
+use Rattle.gh_path.specs.Graphs.{reads, fork, tested, all_tested, some_tested}
+use Rattle.gh_path.specs.Lowered.{AddsBefore, AddsChoice}
 use Rattle.gh_path.proofs.ShownLemmas.{add_fork, then}
 use Rattle.gh_path.proofs.LowerLemmas.{all_more, some_more, all_whole, some_whole, test_is}
 use Rattle.gh_path.proofs.walker.Walker.+lower_test.Goals as goal
@@ -38,28 +40,42 @@ lower_some-returns-clause-adds t c = λ g k first second.
     let none : c.loop-left.left ≡ 0 = omega arith in
     some_whole c.args.nodes.now c.loop-left.nodes c.args.tests.now c.loop-left.left c.loop-left.place g k none (c.loop-left.invariant.adds g k first second)
 
-pub lower_test-returns-in_ok-first-in-Compare-clause-adds : goal.lower_test-returns-in_ok-first-in-Compare-clause-adds
-lower_test-returns-in_ok-first-in-Compare-clause-adds t c = λ g k first second.
+pub lower_test-returns-in_ok-fork-in-Compare-clause-adds : goal.lower_test-returns-in_ok-fork-in-Compare-clause-adds
+lower_test-returns-in_ok-fork-in-Compare-clause-adds t c =
     let ns = c.args.nodes.now in
+    let before = c.add.new.self in
+    let after = c.lower_sides.new.nodes in
+    let at = c.in_ok-fork-in-Compare.fork in
     let l = c.in-Compare.left in
     let r = c.in-Compare.right in
     let e = c.in-Compare.equal in
     let is : test_of c.args.test.now ≡ compare l e r = ap test_of c.in-Compare.is ∙ test_of-Compare l e r in
-    let one = add_fork ns c.add.new.self c.in_ok-fork-in-Compare.fork c.args.yes c.args.no _ _ e g k c.in_ok-fork-in-Compare.ensures.added c.in_ok-fork-in-Compare.ensures.place first second in
-    let two = c.in_ok-second-in-Compare.ensures.adds (fork l e r g k) one.shows in
-    let three = c.in_ok-first-in-Compare.ensures.adds (reads r (fork l e r g k)) two.shows in
-    test_is ns c.lower_read-in-Compare.new.nodes c.in_ok-first-in-Compare.first (test_of c.args.test.now) (compare l e r) g k is
-    (then ns c.lower_read.new.nodes c.lower_read-in-Compare.new.nodes c.in_ok-second-in-Compare.second c.in_ok-first-in-Compare.first (reads r (fork l e r g k)) (reads l (reads r (fork l e r g k)))
-    (then ns c.add.new.self c.lower_read.new.nodes c.in_ok-fork-in-Compare.fork c.in_ok-second-in-Compare.second (fork l e r g k) (reads r (fork l e r g k)) one two) three)
+    IfOk-weaker c.lower_sides.result (AddsBefore (λ g. reads l (reads r g)) before at after) (AddsChoice (tested (test_of c.args.test.now)) ns c.args.yes c.args.no after)
+    (λ i adds g k first second.
+        let h = fork l e r g k in
+        let one = add_fork ns before at c.args.yes c.args.no _ _ e g k c.in_ok-fork-in-Compare.ensures.added c.in_ok-fork-in-Compare.ensures.place first second in
+        test_is ns after i (test_of c.args.test.now) (compare l e r) g k is
+        (then ns before after at i h (reads l (reads r h)) one (adds h one.shows)))
+    c.lower_sides.ensures.adds
 
-pub lower_test-returns-in_ok-lower_all-in-And-clause-adds : goal.lower_test-returns-in_ok-lower_all-in-And-clause-adds
-lower_test-returns-in_ok-lower_all-in-And-clause-adds t c = λ g k first second.
-    let is : test_of c.args.test.now ≡ conjunction (tests_view c.in-And.members.items) = ap test_of c.in-And.is ∙ test_of-And c.in-And.members in
-    test_is c.args.nodes.now _ _ (test_of c.args.test.now) (conjunction (tests_view c.in-And.members.items)) g k is
-    (rw c.as_slice.ensures.value at (c.in_ok-lower_all-in-And.ensures.adds g k first second))
+pub lower_test-returns-in-And-clause-adds : goal.lower_test-returns-in-And-clause-adds
+lower_test-returns-in-And-clause-adds t c =
+    let ns = c.args.nodes.now in
+    let after = c.lower_all.new.nodes in
+    let ts = c.in-And.members in
+    let is : test_of c.args.test.now ≡ conjunction (tests_view ts.items) = ap test_of c.in-And.is ∙ test_of-And ts in
+    IfOk-weaker c.lower_all.result (AddsChoice (all_tested (tests_view c.as_slice.result.now)) ns c.args.yes c.args.no after) (AddsChoice (tested (test_of c.args.test.now)) ns c.args.yes c.args.no after)
+    (λ i adds g k first second.
+        test_is ns after i (test_of c.args.test.now) (conjunction (tests_view ts.items)) g k is (rw c.as_slice.ensures.value at (adds g k first second)))
+    c.lower_all.ensures.adds
 
-pub lower_test-returns-in_ok-lower_some-in-Or-clause-adds : goal.lower_test-returns-in_ok-lower_some-in-Or-clause-adds
-lower_test-returns-in_ok-lower_some-in-Or-clause-adds t c = λ g k first second.
-    let is : test_of c.args.test.now ≡ disjunction (tests_view c.in-Or.members.items) = ap test_of c.in-Or.is ∙ test_of-Or c.in-Or.members in
-    test_is c.args.nodes.now _ _ (test_of c.args.test.now) (disjunction (tests_view c.in-Or.members.items)) g k is
-    (rw c.as_slice-in-Or.ensures.value at (c.in_ok-lower_some-in-Or.ensures.adds g k first second))
+pub lower_test-returns-in-Or-clause-adds : goal.lower_test-returns-in-Or-clause-adds
+lower_test-returns-in-Or-clause-adds t c =
+    let ns = c.args.nodes.now in
+    let after = c.lower_some.new.nodes in
+    let ts = c.in-Or.members in
+    let is : test_of c.args.test.now ≡ disjunction (tests_view ts.items) = ap test_of c.in-Or.is ∙ test_of-Or ts in
+    IfOk-weaker c.lower_some.result (AddsChoice (some_tested (tests_view c.as_slice-in-Or.result.now)) ns c.args.yes c.args.no after) (AddsChoice (tested (test_of c.args.test.now)) ns c.args.yes c.args.no after)
+    (λ i adds g k first second.
+        test_is ns after i (test_of c.args.test.now) (disjunction (tests_view ts.items)) g k is (rw c.as_slice-in-Or.ensures.value at (adds g k first second)))
+    c.lower_some.ensures.adds
