@@ -127,6 +127,10 @@ keeps_then a b c k l m f g = record {
   longer = g.longer ∙ ap (λ (xs : List LogLine). xs ++ g.more) f.longer ∙ append_assoc k f.more g.more;
 }
 
+-- what is kept through three calls
+pub kept_through : (a b c d : SearchState) (k l m n : List LogLine) → KeepsLines a k b l → KeepsLines b l c m → KeepsLines c m d n → KeepsLines a k d n
+kept_through a b c d k l m n f g h = keeps_then a b d k l n f (keeps_then b c d l m n g h)
+
 -- a line more for a clause more
 pub keeps_push : (old new : SearchState) (before after : List LogLine) (l : LogLine) (clause : List Lit) → after ≡ before ++ l ∷ [] → new.sizes ≡ old.sizes → new.clauses ≡ old.clauses ++ clause ∷ [] → IsOfVersion 2 l
     → ((p : Problem) → HasLineEach p old before → (line_clause p l ≡ Some clause) × IsOfKind p before l) → KeepsLines old before new after

@@ -6,13 +6,14 @@ use Rattle.gh_ast.specs.Rules.{IsTyped}
 use Rattle.gh_path.specs.Admitted.{most_terms, most_versions}
 use Rattle.gh_path.specs.Answers.{IsNumbered}
 use Rattle.gh_path.specs.Conditions.{conditions}
-use Rattle.gh_path.specs.Kept.{condition_of}
+use Rattle.gh_path.specs.Kept.{condition_of, IsScoped}
 use Rattle.gh_path.proofs.GivenLemmas.{lent_one, lent_on, lent_none}
 use Rattle.gh_symb.specs.Limits.{HasTerms, Passes}
 use Rattle.gh_symb.specs.Met.{IsMet}
 use Rattle.gh_symb.specs.Steps.{IsCount}
 use Rattle.gh_symb.proofs.AdmitLemmas.{ManyTerms, ManyVersions, its_count, one_more, met_more, first_passed, none_has, few_terms, many_terms, number_at, numbered_is_scoped, counts_more}
 use Rattle.gh_symb.proofs.admit.count_all.Goals as goal
+use Rattle.gh_symb.proofs.admit.count_all.Goals.{After-condition-condition}
 
 pub loop-place-init : goal.loop-place-init
 loop-place-init c = record {
@@ -29,34 +30,33 @@ unreachable-requires c =
     lent_none P c.loop-place.walk c.advance.new.self k c.advance.result c.in_ok-more.more c.in_ok-more.was
     c.if-not-more.true c.loop-place.invariant.before (omega (arith, c.requires.number, c.loop-place-test.true)) c.advance.ensures.next
 
-pub counted-requires : goal.counted-requires
-counted-requires c =
+-- the condition that the walk lends is the one at its place
+lent : (c : After-condition-condition) → IsNumbered (program_of c.args.typed.now) (c.loop-place.place + 1) (Some c.condition-condition.result.now)
+lent c =
+    lent_one (program_of c.args.typed.now) c.loop-place.walk c.advance.new.self c.loop-place.place c.advance.result c.in_ok-more.more
+    c.condition-condition.result.now c.in_ok-more.was c.if-not-more.false c.condition-condition.ensures c.loop-place.invariant.before
+    c.advance.ensures.next
+
+-- it is a condition of the program, with its procedure
+scoped : (c : After-condition-condition) → IsScoped (program_of c.args.typed.now) c.condition-condition.result.now
+scoped c =
     let P = program_of c.args.typed.now in
-    let r = c.condition-condition.result.now in
     let typed : IsTyped P = subst (λ Q. IsTyped (program_of Q)) c.program-program.ensures.same c.program-program.ensures.typed in
-    numbered_is_scoped P (c.loop-place.place + 1) r typed
-    (lent_one P c.loop-place.walk c.advance.new.self c.loop-place.place c.advance.result c.in_ok-more.more r c.in_ok-more.was
-    c.if-not-more.false c.condition-condition.ensures c.loop-place.invariant.before c.advance.ensures.next)
+    numbered_is_scoped P (c.loop-place.place + 1) c.condition-condition.result.now typed (lent c)
+
+pub counted-requires : goal.counted-requires
+counted-requires c = scoped c
 
 pub limit_of-passed-requires : goal.limit_of-passed-requires
-limit_of-passed-requires c =
-    let P = program_of c.args.typed.now in
-    let r = c.condition-condition.result.now in
-    let typed : IsTyped P = subst (λ Q. IsTyped (program_of Q)) c.program-program.ensures.same c.program-program.ensures.typed in
-    numbered_is_scoped P (c.loop-place.place + 1) r typed
-    (lent_one P c.loop-place.walk c.advance.new.self c.loop-place.place c.advance.result c.in_ok-more.more r c.in_ok-more.was
-    c.if-not-more.false c.condition-condition.ensures c.loop-place.invariant.before c.advance.ensures.next)
+limit_of-passed-requires c = scoped (goal.at.limit_of-passed-requires c).After-condition-condition
 
 pub returns-in-Some-clause-refused : goal.returns-in-Some-clause-refused
 returns-in-Some-clause-refused c =
     let P = program_of c.args.typed.now in
     let k = c.loop-place.place in
     let r = c.condition-condition.result.now in
-    let found : IsNumbered P (k + 1) (Some r) =
-    lent_one P c.loop-place.walk c.advance.new.self k c.advance.result c.in_ok-more.more r c.in_ok-more.was
-    c.if-not-more.false c.condition-condition.ensures c.loop-place.invariant.before c.advance.ensures.next in
-    let typed : IsTyped P = subst (λ Q. IsTyped (program_of Q)) c.program-program.ensures.same c.program-program.ensures.typed in
-    let is = numbered_is_scoped P (k + 1) r typed found in
+    let at = (goal.at.returns-in-Some-clause-refused c).After-condition-condition in
+    let is = scoped at in
     let proc = is.0 in
     let d = condition_of r in
     let passes : Passes P proc d c.limit_of-passed.result = c.limit_of-passed.ensures proc is.1 (c.in_ok-found.ensures proc is.1) in
@@ -67,7 +67,7 @@ returns-in-Some-clause-refused c =
       condition = d;
       procedure = proc;
       within = omega arith;
-      at = number_at P k r found;
+      at = number_at P k r (lent at);
       of = is.1;
       holds = many.0;
       limit = many.1;
@@ -81,14 +81,11 @@ loop-place-preserved c =
     let s = c.loop-place.walk in
     let t = c.advance.new.self in
     let r = c.condition-condition.result.now in
-    let found : IsNumbered P (k + 1) (Some r) =
-    lent_one P s t k c.advance.result c.in_ok-more.more r c.in_ok-more.was c.if-not-more.false c.condition-condition.ensures
-    c.loop-place.invariant.before c.advance.ensures.next in
-    let typed : IsTyped P = subst (λ Q. IsTyped (program_of Q)) c.program-program.ensures.same c.program-program.ensures.typed in
-    let is = numbered_is_scoped P (k + 1) r typed found in
+    let at = (goal.at.loop-place-preserved c).After-condition-condition in
+    let is = scoped at in
     let proc = is.0 in
     let d = condition_of r in
-    let here : slice_get (conditions P) k ≡ Some d = number_at P k r found in
+    let here : slice_get (conditions P) k ≡ Some d = number_at P k r (lent at) in
     let counted : IsCount P proc d c.in_ok-found.found = c.in_ok-found.ensures proc is.1 in
     let passed = c.limit_of-passed.result in
     let passes : Passes P proc d passed = c.limit_of-passed.ensures proc is.1 counted in

@@ -4,7 +4,7 @@ use Rattle.gh_sat.specs.Trail.{SearchState}
 use Rattle.gh_base.specs.Grounds.{Problem}
 use Rattle.gh_log.specs.Lines.{LogLine}
 use Rattle.gh_ground.specs.Kept.{HasLineEach, KeepsLines, AddsInstance, IsModelOfEach}
-use Rattle.gh_ground.proofs.KeptLemmas.{keeps_then}
+use Rattle.gh_ground.proofs.KeptLemmas.{keeps_then, kept_through}
 use Rattle.gh_ground.proofs.MissingLemmas.{round_less}
 use Rattle.gh_ground.proofs.solver.Solver.outcome.Goals as goal
 
@@ -31,8 +31,7 @@ returns-in-Some-2-clause-keeps c =
     let first = c.loop-conflict.self in
     let mid = c.conflict.new.self in
     let new = c.model.new.self in
-    keeps_then old.search first.search new.search old.lines first.lines new.lines c.loop-conflict.invariant
-    (keeps_then first.search mid.search new.search first.lines mid.lines new.lines c.in_ok-conflict.ensures.keeps c.in_ok-structure.ensures.keeps)
+    kept_through old.search first.search mid.search new.search old.lines first.lines mid.lines new.lines c.loop-conflict.invariant c.in_ok-conflict.ensures.keeps c.in_ok-structure.ensures.keeps
 
 pub loop-conflict-preserved : goal.loop-conflict-preserved
 loop-conflict-preserved c =
@@ -40,8 +39,7 @@ loop-conflict-preserved c =
     let first = c.loop-conflict.self in
     let mid = c.conflict.new.self in
     let new = c.model.new.self in
-    keeps_then old.search first.search new.search old.lines first.lines new.lines c.loop-conflict.invariant
-    (keeps_then first.search mid.search new.search first.lines mid.lines new.lines c.in_ok-conflict.ensures.keeps c.in_ok-structure.ensures.keeps)
+    kept_through old.search first.search mid.search new.search old.lines first.lines mid.lines new.lines c.loop-conflict.invariant c.in_ok-conflict.ensures.keeps c.in_ok-structure.ensures.keeps
 
 -- the numbers of terms stay as they are
 stays : (p : Problem) (s0 s1 : SearchState) (l0 l1 : List LogLine) → HasLineEach p s0 l0 → KeepsLines s0 l0 s1 l1 → s1.sizes ≡ s0.sizes
