@@ -77,14 +77,14 @@ lower_statement-returns-in_ok-no-in-If-clause-adds t c =
     let later : c.saturating_add-later.result ≡ m = omega (arith, sum, room, length-append (all_loops a) (all_loops b)) in
     IfOk-weaker c.lower_test.result (AddsChoice (tested x) n2 yes no n3) (AddsStatement c.args.self.now c.args.statement.now n ns c.args.next n3)
     (λ i adds g shows.
-        let g1 = all_lowered P n a g in
-        let g2 = all_lowered P m b g in
-        let one : AddsNodes ns n1 yes g1 = c.in_ok-yes-in-If.ensures.adds g shows in
-        let other : AddsNodes n1 n2 no (all_lowered P c.saturating_add-later.result b g) = c.in_ok-no-in-If.ensures.adds g (still ns n1 yes c.args.next g1 g one shows) in
-        let two : AddsNodes n1 n2 no g2 = subst (λ k. AddsNodes n1 n2 no (all_lowered P k b g)) later other in
-        let three = adds g1 g2 (still n1 n2 no yes g2 g1 two one.shows) two.shows in
-        let both = then ns n1 n2 yes no g1 g2 one two in
-        statement_is P n ns n3 i (statement_of c.args.statement.now) s g is (then ns n2 n3 no i g2 (tested x g1 g2) both three))
+    let g1 = all_lowered P n a g in
+    let g2 = all_lowered P m b g in
+    let one : AddsNodes ns n1 yes g1 = c.in_ok-yes-in-If.ensures.adds g shows in
+    let other : AddsNodes n1 n2 no (all_lowered P c.saturating_add-later.result b g) = c.in_ok-no-in-If.ensures.adds g (still ns n1 yes c.args.next g1 g one shows) in
+    let two : AddsNodes n1 n2 no g2 = subst (λ k. AddsNodes n1 n2 no (all_lowered P k b g)) later other in
+    let three = adds g1 g2 (still n1 n2 no yes g2 g1 two one.shows) two.shows in
+    let both = then ns n1 n2 yes no g1 g2 one two in
+    statement_is P n ns n3 i (statement_of c.args.statement.now) s g is (then ns n2 n3 no i g2 (tested x g1 g2) both three))
     c.lower_test.ensures.adds
 
 pub lower_statement-returns-in-While-clause-adds : goal.lower_statement-returns-in-While-clause-adds
@@ -106,5 +106,5 @@ lower_statement-returns-in-Return-clause-adds t c =
     let is = ap statement_of c.in-Return.is ∙ statement_of-Return c.in-Return.span c.in-Return.values in
     IfOk-weaker c.lower_give.result (AddsEnd c.args.self.now (give c.in-Return.span xs) ns after) (AddsStatement c.args.self.now c.args.statement.now c.args.first ns c.args.next after)
     (λ i adds g shows.
-        statement_is P c.args.first ns after i (statement_of c.args.statement.now) _ g is (rw c.as_slice-in-Return.ensures.value at (adds g)))
+    statement_is P c.args.first ns after i (statement_of c.args.statement.now) _ g is (rw c.as_slice-in-Return.ensures.value at (adds g)))
     c.lower_give.ensures.adds

@@ -52,10 +52,10 @@ lower_test-returns-in_ok-fork-in-Compare-clause-adds t c =
     let is : test_of c.args.test.now ≡ compare l e r = ap test_of c.in-Compare.is ∙ test_of-Compare l e r in
     IfOk-weaker c.lower_sides.result (AddsBefore (λ g. reads l (reads r g)) before at after) (AddsChoice (tested (test_of c.args.test.now)) ns c.args.yes c.args.no after)
     (λ i adds g k first second.
-        let h = fork l e r g k in
-        let one = add_fork ns before at c.args.yes c.args.no _ _ e g k c.in_ok-fork-in-Compare.ensures.added c.in_ok-fork-in-Compare.ensures.place first second in
-        test_is ns after i (test_of c.args.test.now) (compare l e r) g k is
-        (then ns before after at i h (reads l (reads r h)) one (adds h one.shows)))
+    let h = fork l e r g k in
+    let one = add_fork ns before at c.args.yes c.args.no _ _ e g k c.in_ok-fork-in-Compare.ensures.added c.in_ok-fork-in-Compare.ensures.place first second in
+    test_is ns after i (test_of c.args.test.now) (compare l e r) g k is
+    (then ns before after at i h (reads l (reads r h)) one (adds h one.shows)))
     c.lower_sides.ensures.adds
 
 pub lower_test-returns-in-And-clause-adds : goal.lower_test-returns-in-And-clause-adds
@@ -66,7 +66,7 @@ lower_test-returns-in-And-clause-adds t c =
     let is : test_of c.args.test.now ≡ conjunction (tests_view ts.items) = ap test_of c.in-And.is ∙ test_of-And ts in
     IfOk-weaker c.lower_all.result (AddsChoice (all_tested (tests_view c.as_slice.result.now)) ns c.args.yes c.args.no after) (AddsChoice (tested (test_of c.args.test.now)) ns c.args.yes c.args.no after)
     (λ i adds g k first second.
-        test_is ns after i (test_of c.args.test.now) (conjunction (tests_view ts.items)) g k is (rw c.as_slice.ensures.value at (adds g k first second)))
+    test_is ns after i (test_of c.args.test.now) (conjunction (tests_view ts.items)) g k is (rw c.as_slice.ensures.value at (adds g k first second)))
     c.lower_all.ensures.adds
 
 pub lower_test-returns-in-Or-clause-adds : goal.lower_test-returns-in-Or-clause-adds
@@ -77,5 +77,5 @@ lower_test-returns-in-Or-clause-adds t c =
     let is : test_of c.args.test.now ≡ disjunction (tests_view ts.items) = ap test_of c.in-Or.is ∙ test_of-Or ts in
     IfOk-weaker c.lower_some.result (AddsChoice (some_tested (tests_view c.as_slice-in-Or.result.now)) ns c.args.yes c.args.no after) (AddsChoice (tested (test_of c.args.test.now)) ns c.args.yes c.args.no after)
     (λ i adds g k first second.
-        test_is ns after i (test_of c.args.test.now) (disjunction (tests_view ts.items)) g k is (rw c.as_slice-in-Or.ensures.value at (adds g k first second)))
+    test_is ns after i (test_of c.args.test.now) (disjunction (tests_view ts.items)) g k is (rw c.as_slice-in-Or.ensures.value at (adds g k first second)))
     c.lower_some.ensures.adds
