@@ -4,7 +4,7 @@ use Rattle.gh_sat.specs.Measure.{left}
 use Rattle.gh_sat.specs.Status.{IsSettled}
 use Rattle.gh_sat.specs.Theory.{HasNoConflict}
 use Rattle.gh_sat.specs.Trail.{IsSound}
-use Rattle.gh_search_tests.proofs.search_tests.is_satisfiable.Given as goal
+use Rattle.gh_search_tests.proofs.turns.is_satisfiable.Given as goal
 
 abbrev pub invariant-loop-next : goal.invariant-loop-next
 invariant-loop-next g l = record {

@@ -5,7 +5,7 @@ use Rattle.gh_base.specs.declared.atom.Lit.{Lit}
 use Rattle.gh_base.specs.declared.sizes.Sizes.{Sizes}
 use Rattle.gh_base.specs.Atoms.{opposite}
 use Rattle.gh_sat.specs.Theory.{IsRefutedBy}
-use Rattle.gh_search_tests.proofs.search_tests.ApartTheory.conflict.Goals as goal
+use Rattle.gh_search_tests.proofs.apart.ApartTheory.conflict.Goals as goal
 
 abbrev first : Sizes → Bool → Lit
 first z positive = record { atom = Def (z.defs - 2); positive = positive }

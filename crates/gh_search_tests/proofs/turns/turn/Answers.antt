@@ -1,5 +1,5 @@
 use Rattle.gh_sat.proofs.MeasureLemmas.{turn_decided, turn_learnt, own_level}
-use Rattle.gh_search_tests.proofs.search_tests.turn.Goals as goal
+use Rattle.gh_search_tests.proofs.turns.turn.Goals as goal
 
 pub returns-in_ok-propagate-in-None-clause-less : goal.returns-in_ok-propagate-in-None-clause-less
 returns-in_ok-propagate-in-None-clause-less g c =
