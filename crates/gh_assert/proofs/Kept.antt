@@ -3,7 +3,8 @@ use Rattle.std.specs.Prelude.{◌≡◌, ◌⊎◌, ℕ, zero, suc, ◌-◌, ◌
 use Rattle.std.specs.FinMap.{get}
 use Rattle.std.proofs.lemmas.Bool.{cases_eq, cases_order}
 use Rattle.std.proofs.Common.{refl, sym, ◌∙◌, ap, subst, inl, inr, arith}
-use Rattle.gh_ast.specs.Plain.{Formula, empty, comparison, points_to, cell, segment, star, cases, Formulas, no_formulas, formula_first}
+use Rattle.gh_ast.specs.Plain.{Assertion, empty, comparison, points_to, cell, segment, star, cases, Assertions}
+use Rattle.gh_ast.specs.Plain.{no_assertions, assertion_first}
 use Rattle.gh_assert.specs.Heaps.{Heap, Splits, IsPart, IsCell, IsEmpty, Segment}
 use Rattle.gh_assert.specs.Meaning.{Store, Meaning, MeaningAll, value, truth}
 use Rattle.gh_assert.proofs.Unique.{left_at, right_at, part_left, part_right}
@@ -24,7 +25,8 @@ walk_in_part : (b h : Heap) → IsPart b h → (k n : ℕ) → Allocated b (walk
 walk_in_part b h p zero n a = refl
 walk_in_part b h p (suc k) n a = elim (allocated_or b n) [
   | inl (v, e) ↦ ap (walk h k) (succ_at h n v (p n v e) ∙ sym (succ_at b n v e)) ∙ walk_in_part b h p k (succ b n) a
-  | inr out ↦ let there : Allocated b n = subst (Allocated b) (walk_stays b n out (suc k)) a in let e = there.1 in absurd cc
+  | inr out ↦ let there : Allocated b n = subst (Allocated b) (walk_stays b n out (suc k)) a in let e = there.1 in
+      absurd cc
 ]
 
 in_left : (h a b : Heap) → Splits h a b → (x v : ℕ) → get a x ≡ Some v → get h x ≡ Some v
@@ -36,17 +38,25 @@ in_right h a b split x v e = right_at (get h x) (get a x) (get b x) v (split.dis
 in_part : (h a b : Heap) → Splits h a b → (x v : ℕ) → get h x ≡ Some v → (get a x ≡ Some v) ⊎ (get b x ≡ Some v)
 in_part h a b split x v e = in_either h a b x v (split.union x) e
 
-reached_in : (V : List ℕ) (a h : Heap) → IsPart a h → Owned V a → (c : ℕ) → Allocated a c → IsUnnamed V c → HangsBelow V h c
+reached_in : (V : List ℕ) (a h : Heap) → IsPart a h → Owned V a → (c : ℕ) → Allocated a c → IsUnnamed V c
+    → HangsBelow V h c
 reached_in V a h p own c there un =
     let from = own.reached c there un in
-    let at = from.3 in
-    (from.0, from.1, from.2, (at.0, p from.0 at.0 at.1), walk_in_part a h p from.1 from.0 (subst (Allocated a) (sym from.4) there) ∙ from.4)
+    let at = from.3 in (
+      from.0,
+      from.1,
+      from.2,
+      (at.0, p from.0 at.0 at.1),
+      walk_in_part a h p from.1 from.0 (subst (Allocated a) (sym from.4) there) ∙ from.4,
+    )
 
-points_in : (V : List ℕ) (a h : Heap) → IsPart a h → Owned V a → (x v : ℕ) → get a x ≡ Some v → Contains V v ⊎ Allocated h v
+points_in : (V : List ℕ) (a h : Heap) → IsPart a h → Owned V a → (x v : ℕ) → get a x ≡ Some v
+    → Contains V v ⊎ Allocated h v
 points_in V a h p own x v e = elim (own.points x v e) [ inl c ↦ inl c | inr (w, f) ↦ inr (w, p v w f) ]
 
 -- no two disjoint owned heaps point to one unnamed place
-point_apart : (V : List ℕ) (h a b : Heap) → Splits h a b → Owned V a → Owned V b → (c p q : ℕ) → IsUnnamed V c → get a p ≡ Some c → get b q ≡ Some c → ⊥
+point_apart : (V : List ℕ) (h a b : Heap) → Splits h a b → Owned V a → Owned V b → (c p q : ℕ) → IsUnnamed V c
+    → get a p ≡ Some c → get b q ≡ Some c → ⊥
 point_apart V h a b split own other c p q un e f = elim (own.points p c e) [
   | inl n ↦ un n
   | inr s ↦ elim (other.points q c f) [ inl n ↦ un n | inr t ↦ parts_apart h a b c split s t ]
@@ -59,8 +69,12 @@ owned_union V h a b split own other = record {
     | inr r ↦ points_in V b h (in_right h a b split) other x v r
   ];
   one_predecessor = λ c p q un e f. elim (in_part h a b split p c e) [
-    | inl l ↦ elim (in_part h a b split q c f) [ inl m ↦ own.one_predecessor c p q un l m | inr m ↦ absurd (point_apart V h a b split own other c p q un l m) ]
-    | inr r ↦ elim (in_part h a b split q c f) [ inl m ↦ absurd (point_apart V h a b split own other c q p un m r) | inr m ↦ other.one_predecessor c p q un r m ]
+    | inl l ↦ elim (in_part h a b split q c f)
+        [ inl m ↦ own.one_predecessor c p q un l m | inr m ↦ absurd (point_apart V h a b split own other c p q un l m) ]
+    | inr r ↦ elim (in_part h a b split q c f) [
+      | inl m ↦ absurd (point_apart V h a b split own other c q p un m r)
+      | inr m ↦ other.one_predecessor c p q un r m
+    ]
   ];
   reached = λ c there un. elim (in_part h a b split c there.0 there.1) [
     | inl l ↦ reached_in V a h (in_left h a b split) own c (there.0, l) un
@@ -108,7 +122,8 @@ owned_segment V a n x y s from to = record {
 
     one : (c p q : ℕ) → Meets (succ a) x n p → Meets (succ a) x n q → get a p ≡ Some c → get a q ≡ Some c → p ≡ q
     one c p q (i, l, e) (j, m, f) u v =
-        let next : walk a (suc i) x ≡ walk a (suc j) x = walk_suc a i x ∙ ap (succ a) e ∙ succ_at a p c u ∙ sym (walk_suc a j x ∙ ap (succ a) f ∙ succ_at a q c v) in
+        let next : walk a (suc i) x ≡ walk a (suc j) x =
+        walk_suc a i x ∙ ap (succ a) e ∙ succ_at a p c u ∙ sym (walk_suc a j x ∙ ap (succ a) f ∙ succ_at a q c v) in
         elim (cases_order i j) [
           | inl same ↦ sym e ∙ ap (λ k. walk a k x) same ∙ f
           | inr (inl less) ↦ absurd (distinct far (suc i) (suc j) (n - suc j) (omega arith) (omega arith) next)
@@ -116,45 +131,57 @@ owned_segment V a n x y s from to = record {
         ]
 
 mutual
-  owned_footprint : (f : Formula) (s : Store) (V : List ℕ) (h a : Heap) → IsPart a h → HasNames f s h V → Meaning f s a → Owned V a
+  owned_footprint : (f : Assertion) (s : Store) (V : List ℕ) (h a : Heap) → IsPart a h → HasNames f s h V
+      → Meaning f s a → Owned V a
   owned_footprint empty s V h a p n m = owned_empty V a m
   owned_footprint (comparison l e r) s V h a p n m = owned_empty V a m.0
   owned_footprint (points_to at to) s V h a p n m = owned_cell V a (s at.name) (value s to) m n.0 n.2
-  owned_footprint (cell at) s V h a p n (to, m) = owned_cell V a (s at.name) to m n.0 (subst (Contains V) (succ_at h (s at.name) to (p (s at.name) to m.here)) n.1)
+  owned_footprint (cell at) s V h a p n (to, m) =
+      owned_cell V a (s at.name) to m n.0 (subst (Contains V) (succ_at h (s at.name) to (p (s at.name) to m.here)) n.1)
   owned_footprint (segment x y) s V h a p n (k, m) = owned_segment V a k (value s x) (value s y) m n.0 n.1
   owned_footprint (star fs) s V h a p n m = owned_footprints fs s V h a p n m
   owned_footprint (cases t f g) s V h a p n m =
-      at_choice (truth s t) (Meaning f s a) (Meaning g s a) (Owned V a) (λ u. owned_footprint f s V h a p n.0 u) (λ u. owned_footprint g s V h a p n.1 u) m
+      at_choice (truth s t) (Meaning f s a) (Meaning g s a) (Owned V a) (λ u. owned_footprint f s V h a p n.0 u)
+      (λ u. owned_footprint g s V h a p n.1 u) m
 
-  owned_footprints : (fs : Formulas) (s : Store) (V : List ℕ) (h a : Heap) → IsPart a h → HaveNames fs s h V → MeaningAll fs s a → Owned V a
-  owned_footprints no_formulas s V h a p n m = owned_empty V a m
-  owned_footprints (formula_first f fs) s V h a p n (b, c, split, m, ms) =
-      owned_union V a b c split (owned_footprint f s V h b (part_left a b c h split p) n.0 m) (owned_footprints fs s V h c (part_right a b c h split p) n.1 ms)
+  owned_footprints : (fs : Assertions) (s : Store) (V : List ℕ) (h a : Heap) → IsPart a h → HaveNames fs s h V
+      → MeaningAll fs s a → Owned V a
+  owned_footprints no_assertions s V h a p n m = owned_empty V a m
+  owned_footprints (assertion_first f fs) s V h a p n (b, c, split, m, ms) =
+      owned_union V a b c split (owned_footprint f s V h b (part_left a b c h split p) n.0 m)
+      (owned_footprints fs s V h c (part_right a b c h split p) n.1 ms)
 
 pub footprints_are_owned : FootprintsAreOwned
 footprints_are_owned V h a s f p n m = owned_footprint f s V h a p n m
 
 -- a part that unnamed edges neither enter nor leave leaves an owned rest
-owned_rest : (V : List ℕ) (h a b : Heap) → Owned V h → Splits h a b → GoesBack V h (Allocated a) → GoesOn V h (Allocated a) → Owned V b
+owned_rest : (V : List ℕ) (h a b : Heap) → Owned V h → Splits h a b → GoesBack V h (Allocated a)
+    → GoesOn V h (Allocated a) → Owned V b
 owned_rest V h a b own split back on = record {
   points = λ x v e. elim (own.points x v (in_right h a b split x v e)) [
     | inl c ↦ inl c
     | inr there ↦ elim (named_or V v) [
       | inl c ↦ inl c
       | inr un ↦ elim (in_part h a b split v there.0 there.1) [
-        | inl l ↦ absurd (parts_apart h a b x split (enters x v (v, in_right h a b split x v e) un (there.0, l) (in_right h a b split x v e)) (v, e))
+        | inl l ↦ absurd (parts_apart h a b x split
+            (enters x v (v, in_right h a b split x v e) un (there.0, l) (in_right h a b split x v e)) (v, e))
         | inr r ↦ inr (there.0, r)
       ]
     ]
   ];
-  one_predecessor = λ c p q un e f. own.one_predecessor c p q un (in_right h a b split p c e) (in_right h a b split q c f);
-  reached = λ c there un. owned_induction V h own (λ z. Allocated b z → HangsBelow V b z) (λ z c t. (z, 0, c, t, refl)) step c (there.0, in_right h a b split c there.0 there.1) there;
+  one_predecessor =
+      λ c p q un e f. own.one_predecessor c p q un (in_right h a b split p c e) (in_right h a b split q c f);
+  reached =
+      λ c there un. owned_induction V h own (λ z. Allocated b z → HangsBelow V b z) (λ z c t. (z, 0, c, t, refl)) step c
+      (there.0, in_right h a b split c there.0 there.1) there;
 }
   where
     enters : (p c : ℕ) → Allocated h p → IsUnnamed V c → Allocated a c → get h p ≡ Some c → Allocated a p
-    enters p c b un there e = let from = back c there un in subst (Allocated a) (own.one_predecessor c from.0 p un from.1 e) from.2
+    enters p c b un there e = let from = back c there un in
+        subst (Allocated a) (own.one_predecessor c from.0 p un from.1 e) from.2
 
-    step : (p : ℕ) → Allocated h p → IsUnnamed V (succ h p) → (Allocated b p → HangsBelow V b p) → Allocated b (succ h p) → HangsBelow V b (succ h p)
+    step : (p : ℕ) → Allocated h p → IsUnnamed V (succ h p) → (Allocated b p → HangsBelow V b p)
+        → Allocated b (succ h p) → HangsBelow V b (succ h p)
     step p (v, e) un hangs there = elim (in_part h a b split p v e) [
       | inl l ↦ absurd (parts_apart h a b (succ h p) split (on p (succ h p) (v, l) (at_succ h p (v, e)) un) there)
       | inr r ↦
@@ -167,7 +194,8 @@ pub footprints_come_and_go : FootprintsComeAndGo
 footprints_come_and_go V h a b s f split n m =
     let p = split_part h a b split in (
       λ own. owned_rest V h a b own split
-          (λ c there un. let from = goes_back f s h V n c (covered f s a h m p c there) un in (from.0, from.1, covering f s a h m p from.0 from.2))
+          (λ c there un. let from = goes_back f s h V n c (covered f s a h m p c there) un in
+          (from.0, from.1, covering f s a h m p from.0 from.2))
           (λ q c there e un. covering f s a h m p c (goes_on f s h V n q c (covered f s a h m p q there) e un)),
       λ own. owned_union V h a b split (owned_footprint f s V h a p n m) own,
     )
@@ -184,13 +212,16 @@ cells_come_and_go V h a b x v split is at to = (
 )
 
 -- as long as the walk in an owned part meets no name it is that in the whole
-same_walk : (V : List ℕ) (h b : Heap) (x k : ℕ) → IsPart b h → Owned V b → Allocated b x → ((i : ℕ) → i < k → IsUnnamed V (walk b (suc i) x)) → (j : ℕ) → j ≤ suc k → walk h j x ≡ walk b j x
+same_walk : (V : List ℕ) (h b : Heap) (x k : ℕ) → IsPart b h → Owned V b → Allocated b x
+    → ((i : ℕ) → i < k → IsUnnamed V (walk b (suc i) x)) → (j : ℕ) → j ≤ suc k → walk h j x ≡ walk b j x
 same_walk V h b x k p own a none zero l = refl
 same_walk V h b x k p own a none (suc j) l =
     let at : get b (walk b j x) ≡ Some (walk b (suc j) x) = goes_through V b x own a k none j (omega arith) in
-    walk_suc h j x ∙ ap (succ h) (same_walk V h b x k p own a none j (omega arith)) ∙ succ_at h (walk b j x) (walk b (suc j) x) (p (walk b j x) (walk b (suc j) x) at)
+    walk_suc h j x ∙ ap (succ h) (same_walk V h b x k p own a none j (omega arith))
+    ∙ succ_at h (walk b j x) (walk b (suc j) x) (p (walk b j x) (walk b (suc j) x) at)
 
-unnamed_in_part : (V : List ℕ) (h b : Heap) (x k : ℕ) → IsPart b h → Owned V b → Allocated b x → ((i : ℕ) → i < k → IsUnnamed V (walk h (suc i) x)) → (i : ℕ) → i < k → IsUnnamed V (walk b (suc i) x)
+unnamed_in_part : (V : List ℕ) (h b : Heap) (x k : ℕ) → IsPart b h → Owned V b → Allocated b x
+    → ((i : ℕ) → i < k → IsUnnamed V (walk h (suc i) x)) → (i : ℕ) → i < k → IsUnnamed V (walk b (suc i) x)
 unnamed_in_part V h b x zero p own a none i l = absurd (omega arith)
 unnamed_in_part V h b x (suc k) p own a none i l =
     let before = unnamed_in_part V h b x k p own a (λ j m. none j (omega arith)) in

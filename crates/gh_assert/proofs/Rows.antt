@@ -4,7 +4,8 @@ use Rattle.std.proofs.lemmas.Bool.{cases_lt}
 use Rattle.std.proofs.Common.{refl, sym, ◌∙◌, ap, subst, inl, inr, arith}
 use Rattle.gh_assert.specs.Walks.{steps, IsDistance, IsBetween, Leads}
 use Rattle.gh_assert.specs.Laws.{Rows}
-use Rattle.gh_assert.proofs.Steps.{steps_add, distance_zero, distance_from, distance_unique, triangle, distance_front, distance_rest}
+use Rattle.gh_assert.proofs.Steps.{steps_add, distance_zero, distance_from, distance_unique, triangle, distance_front}
+use Rattle.gh_assert.proofs.Steps.{distance_rest}
 
 -- the distances from x to y and from y to z add up to that from x to z
 pub record Adds (f : ℕ → ℕ) (x y z : ℕ) : Type 0 where
@@ -36,7 +37,8 @@ pub between_from : {f : ℕ → ℕ} {x y : ℕ} → Leads f x y → IsBetween f
 between_from {f = f} {x = x} {y = y} (n, e) = between_itself (distance_from f n x y e).1
 
 further : {f : ℕ → ℕ} {x y z m n : ℕ} → IsDistance f x y m → IsDistance f y z n → (k : ℕ) × IsDistance f x z k
-further {f = f} {x = x} {z = z} {m = m} {n = n} d e = distance_from f (m + n) x z (steps_add f (m + n) m n x refl ∙ ap (steps f n) d.arrives ∙ e.arrives)
+further {f = f} {x = x} {z = z} {m = m} {n = n} d e =
+    distance_from f (m + n) x z (steps_add f (m + n) m n x refl ∙ ap (steps f n) d.arrives ∙ e.arrives)
 
 closed : {f : ℕ → ℕ} {x y : ℕ} → IsBetween f x y x → x ≡ y
 closed {f = f} {x = x} {y = y} b =

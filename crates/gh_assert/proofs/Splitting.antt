@@ -20,7 +20,8 @@ symmetric h a b split = record {
   union = λ q. turned (get h q) (get a q) (get b q) (split.disjoint q) (split.union q);
 }
 
-one_rest : (o a b c : Option ℕ) → (a ≡ None) ⊎ (b ≡ None) → (a ≡ None) ⊎ (c ≡ None) → o ≡ or_else a b → o ≡ or_else a c → b ≡ c
+one_rest : (o a b c : Option ℕ) → (a ≡ None) ⊎ (b ≡ None) → (a ≡ None) ⊎ (c ≡ None) → o ≡ or_else a b → o ≡ or_else a c
+    → b ≡ c
 one_rest o None b c d e p q = sym p ∙ q
 one_rest o (Some v) b c d e p q = elim d [
   | inl n ↦ absurd cc
@@ -28,14 +29,17 @@ one_rest o (Some v) b c d e p q = elim d [
 ]
 
 pub rest : (h a b c : Heap) → Splits h a b → Splits h a c → b ≡ c
-rest h a b c one two = by_look_ups b c (λ q. one_rest (get h q) (get a q) (get b q) (get c q) (one.disjoint q) (two.disjoint q) (one.union q) (two.union q))
+rest h a b c one two =
+    by_look_ups b c (λ q. one_rest (get h q) (get a q) (get b q) (get c q) (one.disjoint q) (two.disjoint q)
+    (one.union q) (two.union q))
 
 pub whole : (h k a b : Heap) → Splits h a b → Splits k a b → h ≡ k
 whole h k a b one two = by_look_ups h k (λ q. one.union q ∙ sym (two.union q))
 
 pub associative : (h a b c d : Heap) → Splits h a b → Splits b c d → (k : Heap) × Splits h k d × Splits k a c
 associative h a b c d one two =
-    let same : b ≡ union c d = whole b (union c d) c d two (record { disjoint = two.disjoint; union = λ q. get_union c d q }) in
+    let same : b ≡ union c d =
+    whole b (union c d) c d two (record { disjoint = two.disjoint; union = λ q. get_union c d q }) in
     let back = taken_back h a c d (subst (Splits h a) same one) two.disjoint in
     (union a c, back.0, back.1)
 

@@ -32,7 +32,8 @@ pub distance_from : (f : ℕ → ℕ) (n x y : ℕ) → steps f n x ≡ y → (m
 distance_from f zero x y e = (0, distance_zero f x y e)
 distance_from f (suc n) x y e = elim (cases_eq x y) [
   | inl same ↦ (0, distance_zero f x y same)
-  | inr other ↦ let further = distance_from f n (f x) y e in (suc further.0, distance_suc f x y further.0 other further.1)
+  | inr other ↦ let further = distance_from f n (f x) y e in
+      (suc further.0, distance_suc f x y further.0 other further.1)
 ]
 
 pub distance_least : {f : ℕ → ℕ} {x y n : ℕ} → IsDistance f x y n → (m : ℕ) → steps f m x ≡ y → n ≤ m
@@ -42,16 +43,22 @@ pub distance_unique : {f : ℕ → ℕ} {x y m n : ℕ} → IsDistance f x y m �
 distance_unique {m = m} {n = n} d e = omega (arith, distance_least d n e.arrives, distance_least e m d.arrives)
 
 pub triangle : {f : ℕ → ℕ} {x y z m n k : ℕ} → IsDistance f x y m → IsDistance f y z n → IsDistance f x z k → k ≤ m + n
-triangle {f = f} {x = x} {m = m} {n = n} d e g = distance_least g (m + n) (steps_add f (m + n) m n x refl ∙ ap (steps f n) d.arrives ∙ e.arrives)
+triangle {f = f} {x = x} {m = m} {n = n} d e g =
+    distance_least g (m + n) (steps_add f (m + n) m n x refl ∙ ap (steps f n) d.arrives ∙ e.arrives)
 
 -- before the end of a walk no value is met twice
-pub distinct : {f : ℕ → ℕ} {x z j : ℕ} → IsDistance f x z j → (i k r : ℕ) → i < k → k + r ≡ j → steps f i x ≢ steps f k x
-distinct {f = f} {x = x} {j = j} d i k r l e same = d.before (i + r) (omega arith) (steps_add f (i + r) i r x refl ∙ ap (steps f r) same ∙ sym (steps_add f j k r x (sym e)) ∙ d.arrives)
+pub distinct : {f : ℕ → ℕ} {x z j : ℕ} → IsDistance f x z j → (i k r : ℕ) → i < k → k + r ≡ j
+    → steps f i x ≢ steps f k x
+distinct {f = f} {x = x} {j = j} d i k r l e same =
+    d.before (i + r) (omega arith)
+    (steps_add f (i + r) i r x refl ∙ ap (steps f r) same ∙ sym (steps_add f j k r x (sym e)) ∙ d.arrives)
 
-pub distance_front : {f : ℕ → ℕ} {x z j : ℕ} → IsDistance f x z j → (i r : ℕ) → i + r ≡ j → IsDistance f x (steps f i x) i
+pub distance_front : {f : ℕ → ℕ} {x z j : ℕ} → IsDistance f x z j → (i r : ℕ) → i + r ≡ j
+    → IsDistance f x (steps f i x) i
 distance_front d i r e = record { arrives = refl; before = λ k l. distinct d k i r l e }
 
-pub distance_rest : {f : ℕ → ℕ} {x z j : ℕ} → IsDistance f x z j → (i r : ℕ) → i + r ≡ j → IsDistance f (steps f i x) z r
+pub distance_rest : {f : ℕ → ℕ} {x z j : ℕ} → IsDistance f x z j → (i r : ℕ) → i + r ≡ j
+    → IsDistance f (steps f i x) z r
 distance_rest {f = f} {x = x} {j = j} d i r e = record {
   arrives = sym (steps_add f j i r x (sym e)) ∙ d.arrives;
   before = λ k l same. d.before (i + k) (omega arith) (steps_add f (i + k) i k x refl ∙ same);
@@ -59,4 +66,6 @@ distance_rest {f = f} {x = x} {j = j} d i r e = record {
 
 -- what comes before the end isn't fixed
 pub moves : {f : ℕ → ℕ} {x z j : ℕ} → IsDistance f x z j → (i : ℕ) → i < j → f (steps f i x) ≢ steps f i x
-moves {f = f} {x = x} {j = j} d i l same = d.before i l (sym (steps_fixed f (j - i) (steps f i x) same) ∙ sym (steps_add f j i (j - i) x (omega arith)) ∙ d.arrives)
+moves {f = f} {x = x} {j = j} d i l same =
+    d.before i l (sym (steps_fixed f (j - i) (steps f i x) same) ∙ sym (steps_add f j i (j - i) x (omega arith))
+    ∙ d.arrives)

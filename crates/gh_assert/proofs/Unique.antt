@@ -6,7 +6,8 @@ use Rattle.std.specs.FinMap.{get, remove, get-remove, same_map, nat_cmp-IsAntisy
 use Rattle.std.proofs.lemmas.Bool.{cases_eq}
 use Rattle.std.proofs.lemmas.Bool.Decides.{nat_tests}
 use Rattle.std.proofs.Common.{refl, sym, ◌∙◌, ap, subst, inl, inr, arith}
-use Rattle.gh_ast.specs.Plain.{Formula, empty, comparison, points_to, cell, segment, star, cases, Formulas, no_formulas, formula_first}
+use Rattle.gh_ast.specs.Plain.{Assertion, empty, comparison, points_to, cell, segment, star, cases, Assertions}
+use Rattle.gh_ast.specs.Plain.{no_assertions, assertion_first}
 use Rattle.gh_assert.specs.Heaps.{Heap, Splits, IsCell, Segment, IsPart, or_else}
 use Rattle.gh_assert.specs.Meaning.{Store, Meaning, MeaningAll, truth, value}
 use Rattle.gh_assert.specs.Laws.{HaveOneFootprint}
@@ -49,9 +50,11 @@ part_removed b h x p q v e = elim (cases_eq q x) [
 ]
 
 cells_alike : (x z : ℕ) (a b : Heap) → IsCell x z a → IsCell x z b → AreAlike a b
-cells_alike x z a b i j q = elim (cases_eq q x) [ inl e ↦ rw e (i.here ∙ sym j.here) | inr n ↦ i.elsewhere q n ∙ sym (j.elsewhere q n) ]
+cells_alike x z a b i j q =
+    elim (cases_eq q x) [ inl e ↦ rw e (i.here ∙ sym j.here) | inr n ↦ i.elsewhere q n ∙ sym (j.elsewhere q n) ]
 
-segments_alike : (n m x y : ℕ) (a b h : Heap) → Segment n x y a → Segment m x y b → IsPart a h → IsPart b h → AreAlike a b
+segments_alike : (n m x y : ℕ) (a b h : Heap) → Segment n x y a → Segment m x y b → IsPart a h → IsPart b h
+    → AreAlike a b
 segments_alike zero zero x y a b h s t p q k = s.1 k ∙ sym (t.1 k)
 segments_alike zero (suc m) x y a b h s t p q k = absurd (t.0 s.0)
 segments_alike (suc n) zero x y a b h s t p q k = absurd (s.0 t.0)
@@ -59,7 +62,9 @@ segments_alike (suc n) (suc m) x y a b h (ne, nz, z, at, seg) (ne', nz', w, at',
     let ez : get h x ≡ Some z = p x z at in
     let ew : get h x ≡ Some w = q x w at' in
     let same : w ≡ z = cc in
-    let rest = segments_alike n m z y (remove a x) (remove b x) (remove h x) seg (subst (λ v. Segment m v y (remove b x)) same seg') (part_removed a h x p) (part_removed b h x q) in
+    let rest =
+    segments_alike n m z y (remove a x) (remove b x) (remove h x) seg
+    (subst (λ v. Segment m v y (remove b x)) same seg') (part_removed a h x p) (part_removed b h x q) in
     elim (cases_eq k x) [
       | inl e ↦ rw e (at ∙ ap Some (sym same) ∙ sym at')
       | inr n' ↦ sym (get_kept a x k n') ∙ rest k ∙ get_kept b x k n'
@@ -70,7 +75,8 @@ by_truth true F G F' G' C f g u v = f u v
 by_truth false F G F' G' C f g u v = g u v
 
 mutual
-  alike : (f : Formula) (s : Store) (a b h : Heap) → Meaning f s a → Meaning f s b → IsPart a h → IsPart b h → AreAlike a b
+  alike : (f : Assertion) (s : Store) (a b h : Heap) → Meaning f s a → Meaning f s b → IsPart a h → IsPart b h
+      → AreAlike a b
   alike empty s a b h u v p q k = u k ∙ sym (v k)
   alike (comparison l e r) s a b h u v p q k = u.0 k ∙ sym (v.0 k)
   alike (points_to at to) s a b h u v p q k = cells_alike (s at.name) (value s to) a b u v k
@@ -82,11 +88,13 @@ mutual
   alike (segment x y) s a b h (n, u) (m, v) p q k = segments_alike n m (value s x) (value s y) a b h u v p q k
   alike (star fs) s a b h u v p q k = all_alike fs s a b h u v p q k
   alike (cases t f g) s a b h u v p q k =
-      by_truth (truth s t) (Meaning f s a) (Meaning g s a) (Meaning f s b) (Meaning g s b) (get a k ≡ get b k) (λ m n. alike f s a b h m n p q k) (λ m n. alike g s a b h m n p q k) u v
+      by_truth (truth s t) (Meaning f s a) (Meaning g s a) (Meaning f s b) (Meaning g s b) (get a k ≡ get b k)
+      (λ m n. alike f s a b h m n p q k) (λ m n. alike g s a b h m n p q k) u v
 
-  all_alike : (fs : Formulas) (s : Store) (a b h : Heap) → MeaningAll fs s a → MeaningAll fs s b → IsPart a h → IsPart b h → AreAlike a b
-  all_alike no_formulas s a b h u v p q k = u k ∙ sym (v k)
-  all_alike (formula_first f fs) s a b h (a1, a2, sa, u, us) (b1, b2, sb, v, vs) p q k =
+  all_alike : (fs : Assertions) (s : Store) (a b h : Heap) → MeaningAll fs s a → MeaningAll fs s b → IsPart a h
+      → IsPart b h → AreAlike a b
+  all_alike no_assertions s a b h u v p q k = u k ∙ sym (v k)
+  all_alike (assertion_first f fs) s a b h (a1, a2, sa, u, us) (b1, b2, sb, v, vs) p q k =
       let front = alike f s a1 b1 h u v (part_left a a1 a2 h sa p) (part_left b b1 b2 h sb q) k in
       let back = all_alike fs s a2 b2 h us vs (part_right a a1 a2 h sa p) (part_right b b1 b2 h sb q) k in
       sa.union k ∙ ap (λ o. or_else o (get a2 k)) front ∙ ap (or_else (get b1 k)) back ∙ sym (sb.union k)

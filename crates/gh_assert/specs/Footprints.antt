@@ -1,8 +1,8 @@
 -- The one part of a heap that meets an assertion.
 use Rattle.std.specs.Prelude.{◌≡◌, ℕ, List, map, Bool, true, false}
 use Rattle.std.specs.FinMap.{keys}
-use Rattle.gh_ast.specs.declared.Assertion.{Assertion}
-use Rattle.gh_ast.specs.Plain.{Formula, formula_of, formulas_view}
+use Rattle.gh_ast.specs.declared.Assertion.{Assertion as CodeAssertion}
+use Rattle.gh_ast.specs.Plain.{Assertion, assertion_of, assertions_view}
 use Rattle.gh_assert.specs.Heaps.{Heap, Splits}
 use Rattle.gh_assert.specs.Meaning.{Store, Meaning, MeaningAll, MeetsOneOf, HasPart}
 use Rattle.gh_assert.specs.Stores.{store_of}
@@ -28,7 +28,7 @@ abbrev pub AreTaken : Heap → Heap → List ℕ → Type 0
 AreTaken h rest places = (a : Heap) → Splits h a rest → places ≡ keys a
 
 -- the places of the part that meets the assertion, ascending
-pub record IsFootprint (f : Formula) (s : Store) (h : Heap) (places : List ℕ) : Type 0 where
+pub record IsFootprint (f : Assertion) (s : Store) (h : Heap) (places : List ℕ) : Type 0 where
   pub part : Heap
   pub rest : Heap
   pub splits : Splits h part rest
@@ -36,17 +36,17 @@ pub record IsFootprint (f : Formula) (s : Store) (h : Heap) (places : List ℕ) 
   pub places_are : places ≡ keys part
 
 -- what assertions of the code say of a heap, over the listed values of a store
-abbrev pub MeaningIn : List Entry → Assertion → Heap → Type 0
-MeaningIn store a = Meaning (formula_of a) (store_of store)
+abbrev pub MeaningIn : List Entry → CodeAssertion → Heap → Type 0
+MeaningIn store a = Meaning (assertion_of a) (store_of store)
 
-abbrev pub MeaningAllIn : List Entry → List Assertion → Heap → Type 0
-MeaningAllIn store members = MeaningAll (formulas_view members) (store_of store)
+abbrev pub MeaningAllIn : List Entry → List CodeAssertion → Heap → Type 0
+MeaningAllIn store members = MeaningAll (assertions_view members) (store_of store)
 
-abbrev pub MeetsOneIn : List Entry → List Assertion → Heap → Type 0
-MeetsOneIn store alternatives = MeetsOneOf (map formula_of alternatives) (store_of store)
+abbrev pub MeetsOneIn : List Entry → List CodeAssertion → Heap → Type 0
+MeetsOneIn store alternatives = MeetsOneOf (map assertion_of alternatives) (store_of store)
 
-abbrev pub IsFootprintIn : List Entry → Assertion → Heap → List ℕ → Type 0
-IsFootprintIn store a = IsFootprint (formula_of a) (store_of store)
+abbrev pub IsFootprintIn : List Entry → CodeAssertion → Heap → List ℕ → Type 0
+IsFootprintIn store a = IsFootprint (assertion_of a) (store_of store)
 
-abbrev pub HasPartIn : List Entry → Assertion → Heap → Type 0
-HasPartIn store a = HasPart (formula_of a) (store_of store)
+abbrev pub HasPartIn : List Entry → CodeAssertion → Heap → Type 0
+HasPartIn store a = HasPart (assertion_of a) (store_of store)

@@ -12,7 +12,8 @@ meets_within f (suc n) x y = (x == y) || meets_within f n (f x) y
 -- at most n steps lead from x to z, over y
 abbrev pub passes_within : (ℕ → ℕ) → ℕ → ℕ → ℕ → ℕ → Bool
 passes_within f zero x y z = (x == y) && (x == z)
-passes_within f (suc n) x y z = ((x == y) && meets_within f (suc n) x z) || (not (x == z) && passes_within f n (f x) y z)
+passes_within f (suc n) x y z =
+    ((x == y) && meets_within f (suc n) x z) || (not (x == z) && passes_within f n (f x) y z)
 
 abbrev pub reaches : Heap → ℕ → ℕ → Bool
 reaches h x y = meets_within (succ h) (length (entries h)) x y

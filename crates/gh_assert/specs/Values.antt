@@ -1,7 +1,7 @@
 -- What expressions and tests give, and stores in which names get values.
 use Rattle.std.specs.Prelude.{◌≡◌, ℕ, List, map, Bool, true, false, not, ◌==◌, Option, Some, None, Any, Contains}
 use Rattle.std.specs.FinMap.{get}
-use Rattle.gh_ast.specs.Plain.{Test, compare, negation, conjunction, disjunction, Tests, no_tests, test_first}
+use Rattle.gh_ast.specs.Plain.{Cond, compare, negation, conjunction, disjunction, Conds, no_conds, cond_first}
 use Rattle.gh_ast.specs.declared.Expr.{Expr}
 use Rattle.gh_ast.specs.declared.Expr.TheVariants.{Plain, Read}
 use Rattle.gh_ast.specs.Programs.{Name}
@@ -42,19 +42,19 @@ or_then (Some false) o = o
 
 -- what a test gives, read from left to right with early stop: true, false, or nothing where a read fails
 abbrev mutual
-  pub outcome : Store → Heap → Test → Option Bool
+  pub outcome : Store → Heap → Cond → Option Bool
   outcome s h (compare l e r) = compared e (result s h l) (result s h r)
   outcome s h (negation t) = not_outcome (outcome s h t)
   outcome s h (conjunction ts) = all_outcome s h ts
   outcome s h (disjunction ts) = some_outcome s h ts
 
-  pub all_outcome : Store → Heap → Tests → Option Bool
-  all_outcome s h no_tests = Some true
-  all_outcome s h (test_first t ts) = and_then (outcome s h t) (all_outcome s h ts)
+  pub all_outcome : Store → Heap → Conds → Option Bool
+  all_outcome s h no_conds = Some true
+  all_outcome s h (cond_first t ts) = and_then (outcome s h t) (all_outcome s h ts)
 
-  pub some_outcome : Store → Heap → Tests → Option Bool
-  some_outcome s h no_tests = Some false
-  some_outcome s h (test_first t ts) = or_then (outcome s h t) (some_outcome s h ts)
+  pub some_outcome : Store → Heap → Conds → Option Bool
+  some_outcome s h no_conds = Some false
+  some_outcome s h (cond_first t ts) = or_then (outcome s h t) (some_outcome s h ts)
 
 -- the names get the values, all at once, and every other name keeps its own
 pub record Gets (s : Store) (xs : List Name) (vs : List ℕ) (t : Store) : Type 0 where

@@ -1,7 +1,7 @@
 //! Whether a heap meets an assertion, and which part of it does.
 
 ghost use Rattle.std.specs.Prelude.{◌≡◌, ◌↔◌, ℕ, IfOk, IfNone, IfSome, IsTrue};
-ghost use Rattle.gh_ast.specs.Plain.{test_of, tests_view};
+ghost use Rattle.gh_ast.specs.Plain.{cond_of, conds_view};
 ghost use Rattle.gh_assert.specs.Meaning.{plain_value, truth, all_true, some_true};
 ghost use Rattle.gh_assert.specs.Stores.{store_of};
 ghost use Rattle.gh_assert.specs.Heaps.{Segment};
@@ -27,7 +27,7 @@ fn plain_expr_value(store: &Store, expr: &Expr) -> u32
 // Whether a test of cases is true.
 #[cycle(truth)]
 fn is_true(store: &Store, test: &Cond) -> bool
-    ensures { result ≡ truth (store_of store.now) (test_of test.now) }
+    ensures { result ≡ truth (store_of store.now) (cond_of test.now) }
 {
     match test {
         Cond::Compare { left, equal, right } => {
@@ -45,7 +45,7 @@ fn is_true(store: &Store, test: &Cond) -> bool
 
 #[cycle(truth)]
 fn are_all_true(store: &Store, tests: &[Cond]) -> bool
-    ensures { result ≡ all_true (store_of store.now) (tests_view tests.now) }
+    ensures { result ≡ all_true (store_of store.now) (conds_view tests.now) }
 {
     for test in tests {
         if !is_true(store, test) {
@@ -57,7 +57,7 @@ fn are_all_true(store: &Store, tests: &[Cond]) -> bool
 
 #[cycle(truth)]
 fn is_some_true(store: &Store, tests: &[Cond]) -> bool
-    ensures { result ≡ some_true (store_of store.now) (tests_view tests.now) }
+    ensures { result ≡ some_true (store_of store.now) (conds_view tests.now) }
 {
     for test in tests {
         if is_true(store, test) {

@@ -1,7 +1,7 @@
 //! What expressions and tests give in a store and a heap.
 
 ghost use Rattle.std.specs.Prelude.{◌≡◌, ◌==◌, IfOk, IfNone, IfSome};
-ghost use Rattle.gh_ast.specs.Plain.{test_of, tests_view};
+ghost use Rattle.gh_ast.specs.Plain.{cond_of, conds_view};
 ghost use Rattle.gh_assert.specs.Meaning.{value, agrees};
 ghost use Rattle.gh_assert.specs.Stores.{store_of};
 ghost use Rattle.gh_assert.specs.Values as values;
@@ -78,7 +78,7 @@ fn comparison(left: Option<u32>, equal: bool, right: Option<u32>) -> Option<bool
 /// allocated.
 #[cycle(outcome)]
 pub fn outcome(store: &Store, heap: &Heap, test: &Cond) -> Option<bool>
-    ensures { result ≡ values.outcome (store_of store.now) heap.now (test_of test.now) }
+    ensures { result ≡ values.outcome (store_of store.now) heap.now (cond_of test.now) }
 {
     match test {
         Cond::Compare { left, equal, right } => comparison(
@@ -97,7 +97,7 @@ pub fn outcome(store: &Store, heap: &Heap, test: &Cond) -> Option<bool>
 
 #[cycle(outcome)]
 fn outcome_of_all(store: &Store, heap: &Heap, tests: &[Cond]) -> Option<bool>
-    ensures { result ≡ values.all_outcome (store_of store.now) heap.now (tests_view tests.now) }
+    ensures { result ≡ values.all_outcome (store_of store.now) heap.now (conds_view tests.now) }
 {
     for test in tests {
         match outcome(store, heap, test) {
@@ -110,7 +110,7 @@ fn outcome_of_all(store: &Store, heap: &Heap, tests: &[Cond]) -> Option<bool>
 
 #[cycle(outcome)]
 fn outcome_of_some(store: &Store, heap: &Heap, tests: &[Cond]) -> Option<bool>
-    ensures { result ≡ values.some_outcome (store_of store.now) heap.now (tests_view tests.now) }
+    ensures { result ≡ values.some_outcome (store_of store.now) heap.now (conds_view tests.now) }
 {
     for test in tests {
         match outcome(store, heap, test) {

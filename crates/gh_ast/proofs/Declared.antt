@@ -16,5 +16,6 @@ pub is_one : (ps : List Procedure) (f : Name) (p q : Procedure) → IsFirstNamed
 is_one [] f p q d e = absurd d
 is_one (r ∷ rs) f p q d e = elim d [
   | inl (named, same) ↦ elim e [ inl (named', same') ↦ same ∙ sym same' | inr (other, more) ↦ absurd (other named) ]
-  | inr (other, more) ↦ elim e [ inl (named, same) ↦ absurd (other named) | inr (other', more') ↦ is_one rs f p q more more' ]
+  | inr (other, more) ↦ elim e
+      [ inl (named, same) ↦ absurd (other named) | inr (other', more') ↦ is_one rs f p q more more' ]
 ]

@@ -13,6 +13,7 @@ name_or (x ∷ xs) y = elim (cases_Bool (bytes_eq x y)) [
   | inl same ↦ inl (subst (Contains (x ∷ xs)) ((bytes_eq-Decides x y).0 same) (member_first x xs))
   | inr other ↦ elim (name_or xs y) [
     | inl i ↦ inl (member_later x y xs i)
-    | inr out ↦ inr (λ i. elim (member_cases x xs y i) [ inl e ↦ let same = (bytes_eq-Decides x y).1 e in absurd cc | inr j ↦ out j ])
+    | inr out ↦ inr (λ i. elim (member_cases x xs y i)
+        [ inl e ↦ let same = (bytes_eq-Decides x y).1 e in absurd cc | inr j ↦ out j ])
   ]
 ]

@@ -6,7 +6,8 @@ use Rattle.gh_ast.specs.declared.Expr.TheVariants as expr
 use Rattle.gh_ast.specs.declared.sign.Sign.{Sign}
 use Rattle.gh_ast.specs.declared.sign.Sign.TheVariants as sg
 use Rattle.gh_ast.specs.Tokens.{Token, sign}
-use Rattle.gh_ast.specs.Grammar.{SpellsOperand, null_operand, variable, SpellsExpr, plain, read, SpellsExprs, last_expr, next_expr, SpellsValues, no_values, some_values}
+use Rattle.gh_ast.specs.Grammar.{SpellsOperand, null_operand, variable, SpellsExpr, plain, read, SpellsExprs, last_expr}
+use Rattle.gh_ast.specs.Grammar.{next_expr, SpellsValues, no_values, some_values}
 use Rattle.gh_ast.specs.Readings.{IsUnique}
 
 pub one_operand : (ts : List Token) → IsUnique (SpellsOperand ts)
@@ -21,10 +22,12 @@ one_expr _ _ x y r q read (plain variable n) = absurd (n _ _ refl)
 one_expr _ _ x y r q read read = record { value = refl; rest = refl }
 
 -- no expression begins with a sign
-pub no_sign_expr : (reads : Bool) (s : Sign) (p : Span) (ts : List Token) (e : Expr) (rest : List Token) → SpellsExpr reads (sign s p ∷ ts) e rest → ⊥
+pub no_sign_expr : (reads : Bool) (s : Sign) (p : Span) (ts : List Token) (e : Expr) (rest : List Token)
+    → SpellsExpr reads (sign s p ∷ ts) e rest → ⊥
 no_sign_expr reads s p ts _ rest (plain a n) = elim a [ ]
 
-pub no_sign_exprs : (close s : Sign) (p : Span) (ts : List Token) (es : List Expr) (rest : List Token) → SpellsExprs close (sign s p ∷ ts) es rest → ⊥
+pub no_sign_exprs : (close s : Sign) (p : Span) (ts : List Token) (es : List Expr) (rest : List Token)
+    → SpellsExprs close (sign s p ∷ ts) es rest → ⊥
 no_sign_exprs close s p ts _ rest (last_expr a) = no_sign_expr true s p ts _ _ a
 no_sign_exprs close s p ts _ rest (next_expr a b) = no_sign_expr true s p ts _ _ a
 
@@ -49,19 +52,23 @@ pub record IsNone (close : Sign) (ts : List Token) (es : List Expr) (rest : List
   pub tokens : ts ≡ sign close place ∷ rest
   pub empty : es ≡ []
 
-pub values_cases : (close : Sign) (ts : List Token) (es : List Expr) (rest : List Token) → SpellsValues close ts es rest → IsNone close ts es rest ⊎ SpellsExprs close ts es rest
+pub values_cases : (close : Sign) (ts : List Token) (es : List Expr) (rest : List Token) → SpellsValues close ts es rest
+    → IsNone close ts es rest ⊎ SpellsExprs close ts es rest
 values_cases close _ _ rest (no_values {p = p}) = inl (record { place = p; tokens = refl; empty = refl })
 values_cases close ts es rest (some_values a) = inr a
 
-none_or_some : (close : Sign) (ts : List Token) (x y : List Expr) (r q : List Token) → IsNone close ts x r → SpellsExprs close ts y q → ⊥
-none_or_some close ts x y r q a b = no_sign_exprs close close a.place r y q (subst (λ us. SpellsExprs close us y q) a.tokens b)
+none_or_some : (close : Sign) (ts : List Token) (x y : List Expr) (r q : List Token) → IsNone close ts x r
+    → SpellsExprs close ts y q → ⊥
+none_or_some close ts x y r q a b =
+    no_sign_exprs close close a.place r y q (subst (λ us. SpellsExprs close us y q) a.tokens b)
 
 pub one_values : (close : Sign) (ts : List Token) → (close ≡ sg.Comma → ⊥) → IsUnique (SpellsValues close ts)
 one_values close ts c x y r q s t =
     elim (values_cases close ts x r s) [
       | inl a ↦
           elim (values_cases close ts y q t) [
-            | inl b ↦ (let e = a.tokens in let f = b.tokens in let g = a.empty in let h = b.empty in record { value = cc; rest = cc })
+            | inl b ↦ (let e = a.tokens in let f = b.tokens in let g = a.empty in let h = b.empty in
+                record { value = cc; rest = cc })
             | inr b ↦ absurd (none_or_some close ts x y r q a b)
           ]
       | inr a ↦

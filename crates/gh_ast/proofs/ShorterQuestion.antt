@@ -2,7 +2,9 @@
 use Rattle.std.proofs.Common.{◌<◌, List, length, arith}
 use Rattle.gh_ast.specs.Tokens.{Token}
 use Rattle.gh_ast.specs.Questions.{Claim, Claims}
-use Rattle.gh_ast.specs.QuestionGrammar.{SpellsPart, asserted, in_brackets, SpellsDenial, affirmed, denied, SpellsBoth, one_denial, denials, SpellsDenials, last_denial, next_denial, SpellsClaim, one_both, boths, SpellsBoths, last_both, next_both}
+use Rattle.gh_ast.specs.QuestionGrammar.{SpellsPart, asserted, in_brackets, SpellsDenial, affirmed, denied, SpellsBoth}
+use Rattle.gh_ast.specs.QuestionGrammar.{one_denial, denials, SpellsDenials, last_denial, next_denial, SpellsClaim}
+use Rattle.gh_ast.specs.QuestionGrammar.{one_both, boths, SpellsBoths, last_both, next_both}
 use Rattle.gh_ast.proofs.Shorter.{shorter_assertion}
 
 mutual

@@ -1,12 +1,14 @@
 -- Blanks, words and signs begin differently.
-use Rattle.std.proofs.Common.{◌≡◌, ◌≢◌, ℕ, List, [], ◌∷◌, ◌++◌, length, Bool, true, false, ◌||◌, ◌&&◌, nat_eq, nat_le, not, IsTrue, All, refl, sym, subst, arith, inl, inr}
+use Rattle.std.proofs.Common.{◌≡◌, ◌≢◌, ℕ, List, [], ◌∷◌, ◌++◌, length, Bool, true, false, ◌||◌, ◌&&◌, nat_eq, nat_le}
+use Rattle.std.proofs.Common.{not, IsTrue, All, refl, sym, subst, arith, inl, inr}
 use Rattle.std.specs.List.{list_all}
 use Rattle.std.proofs.lemmas.Bool.{and_parts, and_from, or_cases, eqb-true, leb-true, both_ways}
 use Rattle.std.proofs.lemmas.List.Elements.{All-head, All-tail}
 use Rattle.std.proofs.lemmas.List.Sums.{AllPass-from_list_all}
 use Rattle.gh_base.specs.Names.{is_name_byte}
 use Rattle.gh_ast.specs.declared.sign.Sign.{Sign}
-use Rattle.gh_ast.specs.declared.sign.Sign.TheVariants.{BraceOpen, BraceClose, ParenOpen, ParenClose, Comma, Semicolon, Colon, Dot, Assign, Equal, Unequal, Bang, And, Or, Star, Arrow}
+use Rattle.gh_ast.specs.declared.sign.Sign.TheVariants.{BraceOpen, BraceClose, ParenOpen, ParenClose, Comma, Semicolon}
+use Rattle.gh_ast.specs.declared.sign.Sign.TheVariants.{Colon, Dot, Assign, Equal, Unequal, Bang, And, Or, Star, Arrow}
 use Rattle.gh_ast.specs.declared.sign.Keyword.{Keyword}
 use Rattle.gh_ast.specs.declared.sign.Keyword.TheVariants as keyword
 use Rattle.gh_ast.specs.Tokens.{sign_text, keyword_text, is_blank, begins_word, IsWord, EndsWord}
@@ -26,7 +28,8 @@ after_first [] = []
 after_first (b ∷ rest) = rest
 
 abbrev is_sign_text : List ℕ → Bool
-is_sign_text w = list_all is_plain w && (nat_le 1 (length w) && (not (is_blank (first_of w)) && not (is_name_byte (first_of w))))
+is_sign_text w =
+    list_all is_plain w && (nat_le 1 (length w) && (not (is_blank (first_of w)) && not (is_name_byte (first_of w))))
 
 sign_test : (s : Sign) → is_sign_text (sign_text s) ≡ true
 sign_test BraceOpen = refl
@@ -47,7 +50,8 @@ sign_test Star = refl
 sign_test Arrow = refl
 
 abbrev is_keyword_text : List ℕ → Bool
-is_keyword_text w = list_all is_name_byte w && (nat_le 1 (length w) && (nat_le (length w) 64 && begins_word (first_of w)))
+is_keyword_text w =
+    list_all is_name_byte w && (nat_le 1 (length w) && (nat_le (length w) 64 && begins_word (first_of w)))
 
 keyword_test : (k : Keyword) → is_keyword_text (keyword_text k) ≡ true
 keyword_test keyword.Struct = refl
@@ -88,15 +92,24 @@ not-true' false h = refl
 pub sign_is_sign : (s : Sign) → IsSignText (sign_text s)
 sign_is_sign s =
     let w = sign_text s in
-    let a = and_parts (list_all is_plain w) (nat_le 1 (length w) && (not (is_blank (first_of w)) && not (is_name_byte (first_of w)))) (sign_test s) in
+    let a =
+    and_parts (list_all is_plain w)
+    (nat_le 1 (length w) && (not (is_blank (first_of w)) && not (is_name_byte (first_of w)))) (sign_test s) in
     let b = and_parts (nat_le 1 (length w)) (not (is_blank (first_of w)) && not (is_name_byte (first_of w))) a.1 in
     let d = and_parts (not (is_blank (first_of w))) (not (is_name_byte (first_of w))) b.1 in
-    record { plain = record { test = a.0 }; some = two_of w b.0; not_blank = not-true' (is_blank (first_of w)) d.0; not_name = not-true' (is_name_byte (first_of w)) d.1 }
+    record {
+      plain = record { test = a.0 };
+      some = two_of w b.0;
+      not_blank = not-true' (is_blank (first_of w)) d.0;
+      not_name = not-true' (is_name_byte (first_of w)) d.1;
+    }
 
 pub keyword_is_word : (k : Keyword) → IsWord (keyword_text k)
 keyword_is_word k =
     let w = keyword_text k in
-    let a = and_parts (list_all is_name_byte w) (nat_le 1 (length w) && (nat_le (length w) 64 && begins_word (first_of w))) (keyword_test k) in
+    let a =
+    and_parts (list_all is_name_byte w) (nat_le 1 (length w) && (nat_le (length w) 64 && begins_word (first_of w)))
+    (keyword_test k) in
     let b = and_parts (nat_le 1 (length w)) (nat_le (length w) 64 && begins_word (first_of w)) a.1 in
     let d = and_parts (nat_le (length w) 64) (begins_word (first_of w)) b.1 in
     record {
@@ -126,13 +139,17 @@ pub blank_not_slash : (b : ℕ) → is_blank b ≡ true → b ≢ 47
 blank_not_slash b h = apart is_blank b 47 h refl
 
 pub name_is_plain : (b : ℕ) → is_name_byte b ≡ true → is_plain b ≡ true
-name_is_plain b h = plain_byte b (apart is_name_byte b 47 h refl) (apart is_name_byte b 32 h refl) (apart is_name_byte b 10 h refl)
+name_is_plain b h =
+    plain_byte b (apart is_name_byte b 47 h refl) (apart is_name_byte b 32 h refl) (apart is_name_byte b 10 h refl)
 
 pub word_is_plain : (w : List ℕ) → All (λ b. IsTrue (is_name_byte b)) w → IsPlain w
 word_is_plain [] h = record { test = refl }
 word_is_plain (b ∷ w) h =
     let P : ℕ → Type 0 = λ x. IsTrue (is_name_byte x) in
-    record { test = and_from (is_plain b) (list_all is_plain w) (name_is_plain b (All-head P b w h)) (word_is_plain w (All-tail P b w h)).test }
+    record {
+      test = and_from (is_plain b) (list_all is_plain w) (name_is_plain b (All-head P b w h))
+          (word_is_plain w (All-tail P b w h)).test;
+    }
 
 -- the letters, digits and `_` at the front of a text are one list
 pub record IsOneRun (w r v q : List ℕ) : Type 0 where
@@ -142,7 +159,8 @@ pub record IsOneRun (w r v q : List ℕ) : Type 0 where
 ended : (b : ℕ) (r rest : List ℕ) → EndsWord r → is_name_byte b ≡ true → r ≡ b ∷ rest → ⊥
 ended b r rest h n e = both_ways (is_name_byte b) (subst EndsWord e h) n
 
-pub one_run : (w r v q : List ℕ) → All (λ b. IsTrue (is_name_byte b)) w → EndsWord r → All (λ b. IsTrue (is_name_byte b)) v → EndsWord q
+pub one_run : (w r v q : List ℕ) → All (λ b. IsTrue (is_name_byte b)) w → EndsWord r
+    → All (λ b. IsTrue (is_name_byte b)) v → EndsWord q
     → w ++ r ≡ v ++ q → IsOneRun w r v q
 one_run [] r [] q a b c d e = record { run = refl; rest = e }
 one_run [] r (x ∷ v) q a b c d e = absurd (ended x r (v ++ q) b (All-head (λ y. IsTrue (is_name_byte y)) x v c) e)

@@ -7,10 +7,10 @@ use Rattle.gh_ast.specs.declared.Operand.TheVariants as operand
 use Rattle.gh_ast.specs.declared.Expr.{Expr}
 use Rattle.gh_ast.specs.declared.Expr.TheVariants as expr
 use Rattle.gh_ast.specs.declared.Field.{Field}
-use Rattle.gh_ast.specs.Plain.{Test, compare, negation, conjunction, disjunction, Tests, no_tests, test_first, Formula}
-use Rattle.gh_ast.specs.Plain.{empty, comparison, points_to, cell, segment, star, cases, Formulas, no_formulas}
-use Rattle.gh_ast.specs.Plain.{formula_first, Statement, set, new, write, free, call, choice, loop, give, Statements}
-use Rattle.gh_ast.specs.Plain.{no_statements, statement_first, Inside, Procedure, Program}
+use Rattle.gh_ast.specs.Plain.{Cond, compare, negation, conjunction, disjunction, Conds, no_conds, cond_first}
+use Rattle.gh_ast.specs.Plain.{Assertion, empty, comparison, points_to, cell, segment, star, cases, Assertions}
+use Rattle.gh_ast.specs.Plain.{no_assertions, assertion_first, Statement, set, new, write, free, call, if, while}
+use Rattle.gh_ast.specs.Plain.{return, Statements, no_statements, statement_first, Body, Procedure, Program}
 use Rattle.gh_ast.specs.Tokens.{first_place}
 use Rattle.gh_ast.specs.Grammar.{Spells}
 use Rattle.gh_ast.specs.Printed.{program_text}
@@ -27,29 +27,29 @@ bare_expr (expr.Plain o) = expr.Plain (bare_operand o)
 bare_expr (expr.Read o) = expr.Read (bare_occ o)
 
 abbrev mutual
-  pub bare_test : Test → Test
-  bare_test (compare l e r) = compare (bare_expr l) e (bare_expr r)
-  bare_test (negation t) = negation (bare_test t)
-  bare_test (conjunction ts) = conjunction (bare_tests ts)
-  bare_test (disjunction ts) = disjunction (bare_tests ts)
+  pub bare_cond : Cond → Cond
+  bare_cond (compare l e r) = compare (bare_expr l) e (bare_expr r)
+  bare_cond (negation t) = negation (bare_cond t)
+  bare_cond (conjunction ts) = conjunction (bare_conds ts)
+  bare_cond (disjunction ts) = disjunction (bare_conds ts)
 
-  pub bare_tests : Tests → Tests
-  bare_tests no_tests = no_tests
-  bare_tests (test_first t ts) = test_first (bare_test t) (bare_tests ts)
+  pub bare_conds : Conds → Conds
+  bare_conds no_conds = no_conds
+  bare_conds (cond_first t ts) = cond_first (bare_cond t) (bare_conds ts)
 
 abbrev mutual
-  pub bare_formula : Formula → Formula
-  bare_formula empty = empty
-  bare_formula (comparison l e r) = comparison (bare_operand l) e (bare_operand r)
-  bare_formula (points_to o y) = points_to (bare_occ o) (bare_operand y)
-  bare_formula (cell o) = cell (bare_occ o)
-  bare_formula (segment x y) = segment (bare_operand x) (bare_operand y)
-  bare_formula (star l) = star (bare_formulas l)
-  bare_formula (cases t x y) = cases (bare_test t) (bare_formula x) (bare_formula y)
+  pub bare_assertion : Assertion → Assertion
+  bare_assertion empty = empty
+  bare_assertion (comparison l e r) = comparison (bare_operand l) e (bare_operand r)
+  bare_assertion (points_to o y) = points_to (bare_occ o) (bare_operand y)
+  bare_assertion (cell o) = cell (bare_occ o)
+  bare_assertion (segment x y) = segment (bare_operand x) (bare_operand y)
+  bare_assertion (star l) = star (bare_assertions l)
+  bare_assertion (cases t x y) = cases (bare_cond t) (bare_assertion x) (bare_assertion y)
 
-  pub bare_formulas : Formulas → Formulas
-  bare_formulas no_formulas = no_formulas
-  bare_formulas (formula_first x l) = formula_first (bare_formula x) (bare_formulas l)
+  pub bare_assertions : Assertions → Assertions
+  bare_assertions no_assertions = no_assertions
+  bare_assertions (assertion_first x l) = assertion_first (bare_assertion x) (bare_assertions l)
 
 abbrev mutual
   pub bare_statement : Statement → Statement
@@ -58,16 +58,16 @@ abbrev mutual
   bare_statement (write o e) = write (bare_occ o) (bare_expr e)
   bare_statement (free o) = free (bare_occ o)
   bare_statement (call xs f es) = call (map bare_occ xs) (bare_occ f) (map bare_expr es)
-  bare_statement (choice t a c b d) = choice (bare_test t) (bare_statements a) first_place (bare_statements b) first_place
-  bare_statement (loop p t i a c) = loop first_place (bare_test t) (bare_formula i) (bare_statements a) first_place
-  bare_statement (give p es) = give first_place (map bare_expr es)
+  bare_statement (if t a c b d) = if (bare_cond t) (bare_statements a) first_place (bare_statements b) first_place
+  bare_statement (while p t i a c) = while first_place (bare_cond t) (bare_assertion i) (bare_statements a) first_place
+  bare_statement (return p es) = return first_place (map bare_expr es)
 
   pub bare_statements : Statements → Statements
   bare_statements no_statements = no_statements
   bare_statements (statement_first s a) = statement_first (bare_statement s) (bare_statements a)
 
-abbrev pub bare_inside : Inside → Inside
-bare_inside b = record { locals = map bare_occ b.locals; statements = bare_statements b.statements; close = first_place }
+abbrev pub bare_body : Body → Body
+bare_body b = record { locals = map bare_occ b.locals; statements = bare_statements b.statements; close = first_place }
 
 abbrev pub bare_field : Field → Field
 bare_field f = record { name = bare_occ f.name; kind = f.kind }
@@ -78,15 +78,21 @@ bare_procedure p =
       name = bare_occ p.name;
       parameters = map bare_occ p.parameters;
       results = map bare_occ p.results;
-      needs = bare_formula p.needs;
-      gives = map bare_formula p.gives;
-      body = option_map bare_inside p.body;
+      needs = bare_assertion p.needs;
+      gives = map bare_assertion p.gives;
+      body = option_map bare_body p.body;
       close = first_place;
     }
 
 abbrev pub bare_program : Program → Program
-bare_program p = record { fields = map bare_field p.fields; close = first_place; procedures = map bare_procedure p.procedures }
+bare_program p = record {
+  fields = map bare_field p.fields;
+  close = first_place;
+  procedures = map bare_procedure p.procedures;
+}
 
 -- the printed text of a program that some text spells spells the same program, but for the places
 abbrev pub ReadBack : Type 0
-ReadBack = (text : List ℕ) (p : Program) → Spells text p → (q : Program) × Spells (program_text p) q × (bare_program q ≡ bare_program p)
+ReadBack =
+    (text : List ℕ) (p : Program) → Spells text p
+    → (q : Program) × Spells (program_text p) q × (bare_program q ≡ bare_program p)

@@ -3,9 +3,9 @@
 use Rattle.std.specs.Prelude.{◌≡◌, ℕ, ◌+◌, ◌<◌, ◌≤◌, List, [], ◌∷◌, ◌++◌, length, map, sum, Option, None, Some, All}
 use Rattle.std.specs.Prelude.{Any, min}
 use Rattle.std.specs.List.{HoldsAt}
-use Rattle.gh_ast.specs.Plain.{Test, compare, negation, conjunction, disjunction, Tests, no_tests, test_first}
-use Rattle.gh_ast.specs.Plain.{Formula, star, cases, Formulas, no_formulas, formula_first}
-use Rattle.gh_ast.specs.Plain.{Statement, choice, loop, Statements, no_statements, statement_first, Inside, Procedure}
+use Rattle.gh_ast.specs.Plain.{Cond, compare, negation, conjunction, disjunction, Conds, no_conds, cond_first}
+use Rattle.gh_ast.specs.Plain.{Assertion, star, cases, Assertions, no_assertions, assertion_first}
+use Rattle.gh_ast.specs.Plain.{Statement, if, while, Statements, no_statements, statement_first, Body, Procedure}
 use Rattle.gh_ast.specs.Plain.{Program}
 use Rattle.gh_ast.specs.Lists.{IsFirstWith}
 use Rattle.gh_ast.specs.Occurrences.{variables_of}
@@ -13,39 +13,39 @@ use Rattle.gh_ast.specs.declared.typed.Limit.{Limit}
 
 abbrev mutual
   -- how many comparisons a test has
-  pub test_atoms : Test → ℕ
-  test_atoms (compare l e r) = 1
-  test_atoms (negation t) = test_atoms t
-  test_atoms (conjunction ts) = tests_atoms ts
-  test_atoms (disjunction ts) = tests_atoms ts
+  pub cond_atoms : Cond → ℕ
+  cond_atoms (compare l e r) = 1
+  cond_atoms (negation t) = cond_atoms t
+  cond_atoms (conjunction ts) = conds_atoms ts
+  cond_atoms (disjunction ts) = conds_atoms ts
 
-  pub tests_atoms : Tests → ℕ
-  tests_atoms no_tests = 0
-  tests_atoms (test_first t ts) = test_atoms t + tests_atoms ts
+  pub conds_atoms : Conds → ℕ
+  conds_atoms no_conds = 0
+  conds_atoms (cond_first t ts) = cond_atoms t + conds_atoms ts
 
 abbrev mutual
   -- how many atoms an assertion has: `emp`, cells, segments, points-to and comparisons, those in tests of cases too
-  pub atoms : Formula → ℕ
+  pub atoms : Assertion → ℕ
   atoms (star fs) = all_atoms fs
-  atoms (cases t a b) = test_atoms t + atoms a + atoms b
+  atoms (cases t a b) = cond_atoms t + atoms a + atoms b
   atoms _ = 1
 
-  pub all_atoms : Formulas → ℕ
-  all_atoms no_formulas = 0
-  all_atoms (formula_first f fs) = atoms f + all_atoms fs
+  pub all_atoms : Assertions → ℕ
+  all_atoms no_assertions = 0
+  all_atoms (assertion_first f fs) = atoms f + all_atoms fs
 
 abbrev mutual
   -- the invariants in a statement, in the order of the text
-  pub invariants_in : Statement → List Formula
-  invariants_in (choice t a ca b cb) = all_invariants_in a ++ all_invariants_in b
-  invariants_in (loop s t i b cb) = i ∷ all_invariants_in b
+  pub invariants_in : Statement → List Assertion
+  invariants_in (if t a ca b cb) = all_invariants_in a ++ all_invariants_in b
+  invariants_in (while s t i b cb) = i ∷ all_invariants_in b
   invariants_in _ = []
 
-  pub all_invariants_in : Statements → List Formula
+  pub all_invariants_in : Statements → List Assertion
   all_invariants_in no_statements = []
   all_invariants_in (statement_first s ss) = invariants_in s ++ all_invariants_in ss
 
-abbrev pub invariants_in_body : Option Inside → List Formula
+abbrev pub invariants_in_body : Option Body → List Assertion
 invariants_in_body None = []
 invariants_in_body (Some b) = all_invariants_in b.statements
 

@@ -1,8 +1,8 @@
 -- Whether all names of an expression, a test or an assertion are in a list.
 use Rattle.std.specs.Prelude.{List, Contains}
-use Rattle.gh_ast.specs.Plain.{Test, compare, negation, conjunction, disjunction, Tests, no_tests, test_first, Formula}
-use Rattle.gh_ast.specs.Plain.{empty, comparison, points_to, cell, segment, star, cases, Formulas, no_formulas}
-use Rattle.gh_ast.specs.Plain.{formula_first}
+use Rattle.gh_ast.specs.Plain.{Cond, compare, negation, conjunction, disjunction, Conds, no_conds, cond_first}
+use Rattle.gh_ast.specs.Plain.{Assertion, empty, comparison, points_to, cell, segment, star, cases, Assertions}
+use Rattle.gh_ast.specs.Plain.{no_assertions, assertion_first}
 use Rattle.gh_ast.specs.declared.Operand.{Operand}
 use Rattle.gh_ast.specs.declared.Operand.TheVariants.{Null, Var}
 use Rattle.gh_ast.specs.declared.Expr.{Expr}
@@ -18,26 +18,26 @@ ExprIn (Plain o) xs = OperandIn o xs
 ExprIn (Read o) xs = Contains xs o.name
 
 abbrev mutual
-  pub TestIn : Test → List Name → Type 0
-  TestIn (compare l e r) xs = ExprIn l xs × ExprIn r xs
-  TestIn (negation t) xs = TestIn t xs
-  TestIn (conjunction ts) xs = TestsIn ts xs
-  TestIn (disjunction ts) xs = TestsIn ts xs
+  pub CondIn : Cond → List Name → Type 0
+  CondIn (compare l e r) xs = ExprIn l xs × ExprIn r xs
+  CondIn (negation t) xs = CondIn t xs
+  CondIn (conjunction ts) xs = CondsIn ts xs
+  CondIn (disjunction ts) xs = CondsIn ts xs
 
-  pub TestsIn : Tests → List Name → Type 0
-  TestsIn no_tests xs = Unit {0}
-  TestsIn (test_first t ts) xs = TestIn t xs × TestsIn ts xs
+  pub CondsIn : Conds → List Name → Type 0
+  CondsIn no_conds xs = Unit {0}
+  CondsIn (cond_first t ts) xs = CondIn t xs × CondsIn ts xs
 
 abbrev mutual
-  pub FormulaIn : Formula → List Name → Type 0
-  FormulaIn empty xs = Unit {0}
-  FormulaIn (comparison l e r) xs = OperandIn l xs × OperandIn r xs
-  FormulaIn (points_to at to) xs = Contains xs at.name × OperandIn to xs
-  FormulaIn (cell at) xs = Contains xs at.name
-  FormulaIn (segment x y) xs = OperandIn x xs × OperandIn y xs
-  FormulaIn (star fs) xs = FormulasIn fs xs
-  FormulaIn (cases t f g) xs = TestIn t xs × FormulaIn f xs × FormulaIn g xs
+  pub AssertionIn : Assertion → List Name → Type 0
+  AssertionIn empty xs = Unit {0}
+  AssertionIn (comparison l e r) xs = OperandIn l xs × OperandIn r xs
+  AssertionIn (points_to at to) xs = Contains xs at.name × OperandIn to xs
+  AssertionIn (cell at) xs = Contains xs at.name
+  AssertionIn (segment x y) xs = OperandIn x xs × OperandIn y xs
+  AssertionIn (star fs) xs = AssertionsIn fs xs
+  AssertionIn (cases t f g) xs = CondIn t xs × AssertionIn f xs × AssertionIn g xs
 
-  pub FormulasIn : Formulas → List Name → Type 0
-  FormulasIn no_formulas xs = Unit {0}
-  FormulasIn (formula_first f fs) xs = FormulaIn f xs × FormulasIn fs xs
+  pub AssertionsIn : Assertions → List Name → Type 0
+  AssertionsIn no_assertions xs = Unit {0}
+  AssertionsIn (assertion_first f fs) xs = AssertionIn f xs × AssertionsIn fs xs

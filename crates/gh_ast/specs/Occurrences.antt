@@ -7,12 +7,10 @@ use Rattle.gh_ast.specs.declared.Operand.{Operand}
 use Rattle.gh_ast.specs.declared.Operand.TheVariants.{Null, Var}
 use Rattle.gh_ast.specs.declared.Expr.{Expr}
 use Rattle.gh_ast.specs.declared.Expr.TheVariants.{Plain, Read}
-use Rattle.gh_ast.specs.Plain.{Test, compare, negation, conjunction, disjunction, Tests, no_tests, test_first}
-use Rattle.gh_ast.specs.Plain.{Formula, empty, comparison, points_to, cell, segment, star, cases, Formulas, no_formulas}
-use Rattle.gh_ast.specs.Plain.{formula_first}
-use Rattle.gh_ast.specs.Plain.{Statement, set, new, write, free, call, choice, loop, give, Statements, no_statements}
-use Rattle.gh_ast.specs.Plain.{statement_first}
-use Rattle.gh_ast.specs.Plain.{Inside, Procedure}
+use Rattle.gh_ast.specs.Plain.{Cond, compare, negation, conjunction, disjunction, Conds, no_conds, cond_first}
+use Rattle.gh_ast.specs.Plain.{Assertion, empty, comparison, points_to, cell, segment, star, cases, Assertions}
+use Rattle.gh_ast.specs.Plain.{no_assertions, assertion_first, Statement, set, new, write, free, call, if, while}
+use Rattle.gh_ast.specs.Plain.{return, Statements, no_statements, statement_first, Body, Procedure}
 
 abbrev pub in_operand : Operand → List Occ
 in_operand (Null s) = []
@@ -26,33 +24,33 @@ abbrev pub in_exprs : List Expr → List Occ
 in_exprs es = flat_map in_expr es
 
 abbrev mutual
-  pub in_test : Test → List Occ
-  in_test (compare l e r) = in_expr l ++ in_expr r
-  in_test (negation t) = in_test t
-  in_test (conjunction ts) = in_tests ts
-  in_test (disjunction ts) = in_tests ts
+  pub in_cond : Cond → List Occ
+  in_cond (compare l e r) = in_expr l ++ in_expr r
+  in_cond (negation t) = in_cond t
+  in_cond (conjunction ts) = in_conds ts
+  in_cond (disjunction ts) = in_conds ts
 
-  pub in_tests : Tests → List Occ
-  in_tests no_tests = []
-  in_tests (test_first t ts) = in_test t ++ in_tests ts
+  pub in_conds : Conds → List Occ
+  in_conds no_conds = []
+  in_conds (cond_first t ts) = in_cond t ++ in_conds ts
 
 abbrev mutual
-  pub in_formula : Formula → List Occ
-  in_formula empty = []
-  in_formula (comparison l e r) = in_operand l ++ in_operand r
-  in_formula (points_to a t) = a ∷ in_operand t
-  in_formula (cell a) = a ∷ []
-  in_formula (segment f t) = in_operand f ++ in_operand t
-  in_formula (star fs) = in_formulas fs
-  in_formula (cases t a b) = in_test t ++ in_formula a ++ in_formula b
+  pub in_assertion : Assertion → List Occ
+  in_assertion empty = []
+  in_assertion (comparison l e r) = in_operand l ++ in_operand r
+  in_assertion (points_to a t) = a ∷ in_operand t
+  in_assertion (cell a) = a ∷ []
+  in_assertion (segment f t) = in_operand f ++ in_operand t
+  in_assertion (star fs) = in_assertions fs
+  in_assertion (cases t a b) = in_cond t ++ in_assertion a ++ in_assertion b
 
-  pub in_formulas : Formulas → List Occ
-  in_formulas no_formulas = []
-  in_formulas (formula_first f fs) = in_formula f ++ in_formulas fs
+  pub in_assertions : Assertions → List Occ
+  in_assertions no_assertions = []
+  in_assertions (assertion_first f fs) = in_assertion f ++ in_assertions fs
 
 -- in the alternatives of what a procedure ensures, in order
-abbrev pub in_alternatives : List Formula → List Occ
-in_alternatives fs = flat_map in_formula fs
+abbrev pub in_alternatives : List Assertion → List Occ
+in_alternatives fs = flat_map in_assertion fs
 
 -- what a rule may look at
 pub data Site : Type 0 where
@@ -73,23 +71,23 @@ abbrev mutual
   sites_in inside (write a e) = map mentioned (a ∷ in_expr e)
   sites_in inside (free a) = mentioned a ∷ []
   sites_in inside (call ts c es) = assigned ts ∷ called ts c es ∷ map mentioned (ts ++ in_exprs es)
-  sites_in inside (choice t a ca b cb) = map mentioned (in_test t) ++ all_sites_in inside a ++ all_sites_in inside b
-  sites_in inside (loop s t i b cb) = map mentioned (in_test t ++ in_formula i) ++ all_sites_in true b
-  sites_in inside (give s es) = returned inside s es ∷ map mentioned (in_exprs es)
+  sites_in inside (if t a ca b cb) = map mentioned (in_cond t) ++ all_sites_in inside a ++ all_sites_in inside b
+  sites_in inside (while s t i b cb) = map mentioned (in_cond t ++ in_assertion i) ++ all_sites_in true b
+  sites_in inside (return s es) = returned inside s es ∷ map mentioned (in_exprs es)
 
   pub all_sites_in : Bool → Statements → List Site
   all_sites_in inside no_statements = []
   all_sites_in inside (statement_first s ss) = sites_in inside s ++ all_sites_in inside ss
 
-abbrev pub sites_in_body : Option Inside → List Site
+abbrev pub sites_in_body : Option Body → List Site
 sites_in_body None = []
 sites_in_body (Some b) = all_sites_in false b.statements
 
 -- the sites of a procedure: its contracts and its body
 abbrev pub sites_of : Procedure → List Site
-sites_of q = map mentioned (in_formula q.needs ++ in_alternatives q.gives) ++ sites_in_body q.body
+sites_of q = map mentioned (in_assertion q.needs ++ in_alternatives q.gives) ++ sites_in_body q.body
 
-abbrev pub locals_in : Option Inside → List Occ
+abbrev pub locals_in : Option Body → List Occ
 locals_in None = []
 locals_in (Some b) = b.locals
 

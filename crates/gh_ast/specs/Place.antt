@@ -22,9 +22,11 @@ pub data IsPlace (Spells : List Token → Type 0) (text : List ℕ) : Span → T
       → IsTokens first_place (cleared text) (before ++ t ∷ after) end rest
       → IsPrefix Spells before → (IsPrefix Spells (before ++ t ∷ []) → ⊥) → IsPlace Spells text (begin_of t)
   at_no_token : (tokens : List Token) (place : Span) (rest : List ℕ)
-      → IsTokens first_place (cleared text) tokens place rest → IsStuck rest → rest ≢ [] → IsPrefix Spells tokens → IsPlace Spells text place
+      → IsTokens first_place (cleared text) tokens place rest → IsStuck rest → rest ≢ [] → IsPrefix Spells tokens
+      → IsPlace Spells text place
   at_end : (tokens : List Token) (end : Span)
-      → IsTokens first_place (cleared text) tokens end [] → IsPrefix Spells tokens → (Spells tokens → ⊥) → IsPlace Spells text end
+      → IsTokens first_place (cleared text) tokens end [] → IsPrefix Spells tokens → (Spells tokens → ⊥)
+      → IsPlace Spells text end
 
 -- a text has at most one place of a syntax error
 abbrev pub HaveOnePlace : (List Token → Type 0) → Type 0

@@ -2,8 +2,8 @@
 use Rattle.std.specs.Prelude.{◌≡◌, ◌≢◌, ◌⊎◌, ℕ, List, [], ◌∷◌, map, Option, Some, None, Contains}
 use Rattle.gh_ast.specs.declared.Occ.{Occ}
 use Rattle.gh_ast.specs.Occurrences.{variables_of}
-use Rattle.gh_ast.specs.Plain.{Statement, set, new, write, free, call, choice, loop, give, Statements, no_statements}
-use Rattle.gh_ast.specs.Plain.{statement_first, Inside, Procedure, Program}
+use Rattle.gh_ast.specs.Plain.{Statement, set, new, write, free, call, if, while, return, Statements, no_statements}
+use Rattle.gh_ast.specs.Plain.{statement_first, Body, Procedure, Program}
 
 -- the characters of a name
 abbrev pub Name : Type 0
@@ -22,12 +22,12 @@ abbrev pub results_of : Procedure → List Name
 results_of p = names p.results
 
 -- without a body there are no statements and no locals
-abbrev pub statements_in : Option Inside → Statements
+abbrev pub statements_in : Option Body → Statements
 statements_in None = no_statements
 statements_in (Some b) = b.statements
 
-abbrev pub body_of : Procedure → Statements
-body_of p = statements_in p.body
+abbrev pub body_statements : Procedure → Statements
+body_statements p = statements_in p.body
 
 -- the names of the variables of a procedure, as they are numbered
 abbrev pub variable_names : Procedure → List Name
@@ -55,9 +55,9 @@ abbrev mutual
   Assigns (write x e) y = ⊥
   Assigns (free x) y = ⊥
   Assigns (call xs f es) y = Contains (names xs) y
-  Assigns (choice t a c b d) y = SomeAssigns a y ⊎ SomeAssigns b y
-  Assigns (loop at t i body close) y = SomeAssigns body y
-  Assigns (give at es) y = ⊥
+  Assigns (if t a c b d) y = SomeAssigns a y ⊎ SomeAssigns b y
+  Assigns (while at t i body close) y = SomeAssigns body y
+  Assigns (return at es) y = ⊥
 
   pub SomeAssigns : Statements → Name → Type 0
   SomeAssigns no_statements y = ⊥

@@ -6,12 +6,12 @@ use Rattle.gh_ast.specs.declared.question.Claim as kept
 use Rattle.gh_ast.specs.declared.question.Claim.TheOpen.{Claim-F}
 use Rattle.gh_ast.specs.declared.question.Claim.TheFolds.{fold-Claim}
 use Rattle.gh_ast.specs.declared.question.Question as kept_question
-use Rattle.gh_ast.specs.Plain.{Formula, formula_of}
+use Rattle.gh_ast.specs.Plain.{Assertion, assertion_of}
 
 -- a claim: an assertion, what is denied, all of some claims, one of some claims
 mutual
   pub data Claim : Type 0 where
-    leaf : Formula → Claim
+    leaf : Assertion → Claim
     denial : Claim → Claim
     every : Claims → Claim
     either : Claims → Claim
@@ -25,7 +25,7 @@ claims_of [] = no_claims
 claims_of (c ∷ cs) = claim_first c (claims_of cs)
 
 abbrev pub claim_step : Claim-F Claim → Claim
-claim_step (Claim-F.Leaf f) = leaf (formula_of f)
+claim_step (Claim-F.Leaf f) = leaf (assertion_of f)
 claim_step (Claim-F.Not b) = denial b.value
 claim_step (Claim-F.And v) = every (claims_of v.items)
 claim_step (Claim-F.Or v) = either (claims_of v.items)
@@ -44,4 +44,9 @@ pub record Question : Type 0 where
   pub right : Claim
 
 abbrev pub question_of : kept_question.Question → Question
-question_of q = record { variables = q.variables.items; span = q.span; left = claim_of q.left; right = claim_of q.right }
+question_of q = record {
+  variables = q.variables.items;
+  span = q.span;
+  left = claim_of q.left;
+  right = claim_of q.right;
+}

@@ -5,8 +5,8 @@ use Rattle.gh_base.specs.declared.place.Span.{Span}
 use Rattle.gh_ast.specs.declared.Occ.{Occ}
 use Rattle.gh_ast.specs.declared.Field.{Field}
 use Rattle.gh_ast.specs.Plain.{Procedure, Program}
-use Rattle.gh_ast.specs.Occurrences.{Site, mentioned, assigned, called, returned, sites_of, in_formula, in_alternatives}
-use Rattle.gh_ast.specs.Occurrences.{locals_of, variables_of}
+use Rattle.gh_ast.specs.Occurrences.{Site, mentioned, assigned, called, returned, sites_of, in_assertion}
+use Rattle.gh_ast.specs.Occurrences.{in_alternatives, locals_of, variables_of}
 use Rattle.gh_ast.specs.Programs.{IsFirstNamed}
 
 -- one of these occurrences has this name
@@ -29,7 +29,8 @@ UnknownName q _ s = ⊥
 
 -- 2: a procedure's name that an earlier procedure has; a variable's name that an earlier variable of the procedure has
 abbrev pub DuplicateName : Program → Span → Type 0
-DuplicateName p s = RepeatedAt (map (λ q. q.name) p.procedures) s ⊎ Any (λ q. RepeatedAt (variables_of q) s) p.procedures
+DuplicateName p s =
+    RepeatedAt (map (λ q. q.name) p.procedures) s ⊎ Any (λ q. RepeatedAt (variables_of q) s) p.procedures
 
 -- 3: a target that is a parameter
 abbrev pub AssignToParameter : Procedure → Site → Span → Type 0
@@ -39,7 +40,8 @@ AssignToParameter q _ s = ⊥
 -- 4: a call whose arguments or targets, or a return whose values, aren't as many as they should be
 abbrev pub WrongCount : List Procedure → Procedure → Site → Span → Type 0
 WrongCount ps q (called ts c es) s =
-    (c.span ≡ s) × ((r : Procedure) × IsFirstNamed ps c.name r × ((length es ≢ length r.parameters) ⊎ (length ts ≢ length r.results)))
+    (c.span ≡ s) × ((r : Procedure) × IsFirstNamed ps c.name r
+    × ((length es ≢ length r.parameters) ⊎ (length ts ≢ length r.results)))
 WrongCount ps q (returned inside w es) s = (w ≡ s) × (length es ≢ length q.results)
 WrongCount ps q _ s = ⊥
 
@@ -74,7 +76,7 @@ DataField fs s = Any (λ f. (f.name.span ≡ s) × (f.kind ≢ codes "Node")) fs
 -- 9: in what a procedure requires, a result or a local; in an alternative of what it ensures, a local
 abbrev pub NameOutOfContract : Procedure → Span → Type 0
 NameOutOfContract q s =
-    Any (λ o. (o.span ≡ s) × HasName (q.results ++ locals_of q) o.name) (in_formula q.needs)
+    Any (λ o. (o.span ≡ s) × HasName (q.results ++ locals_of q) o.name) (in_assertion q.needs)
     ⊎ Any (λ o. (o.span ≡ s) × HasName (locals_of q) o.name) (in_alternatives q.gives)
 
 -- 10: a target that stands earlier among the same targets

@@ -24,4 +24,5 @@ AreLexemes (l ∷ ls) = IsLexeme l × AreLexemes ls
 
 -- a line of tokens has these tokens and no others
 abbrev pub HaveTheirTokens : Type 0
-HaveTheirTokens = (ls : List Lexeme) → AreLexemes ls → (ts : List Token) × HasTokens (line_of ls) ts × (map lexeme_of ts ≡ ls)
+HaveTheirTokens =
+    (ls : List Lexeme) → AreLexemes ls → (ts : List Token) × HasTokens (line_of ls) ts × (map lexeme_of ts ≡ ls)

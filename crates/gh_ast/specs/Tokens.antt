@@ -151,7 +151,8 @@ pub data IsPiece (place : Span) (w rest : List ℕ) : List Token → Type 0 wher
 pub data IsTokens : Span → List ℕ → List Token → Span → List ℕ → Type 0 where
   nothing : {p : Span} {text : List ℕ} → IsTokens p text [] p text
   piece : {p end : Span} {text w rest last : List ℕ} {us ts all : List Token}
-      → text ≡ w ++ rest → IsPiece p w rest us → IsTokens (moved_over p w) rest ts end last → all ≡ us ++ ts → IsTokens p text all end last
+      → text ≡ w ++ rest → IsPiece p w rest us → IsTokens (moved_over p w) rest ts end last → all ≡ us ++ ts
+      → IsTokens p text all end last
 
 -- without its comments, the whole text falls into these tokens
 abbrev pub HasTokens : List ℕ → List Token → Type 0

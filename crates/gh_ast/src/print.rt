@@ -2,13 +2,13 @@
 
 ghost use Rattle.std.specs.Prelude.{◌≡◌, ◌∷◌, [], map, Some, option_map, OnOk, IfOk};
 ghost use Rattle.std.specs.List.{flat_map};
-ghost use Rattle.gh_ast.specs.Plain.{set, new, write, free, call, comparison, points_to, cell, segment, test_of};
-ghost use Rattle.gh_ast.specs.Plain.{tests_view, formula_of, formulas_view, statement_of, statements_view, part_of};
-ghost use Rattle.gh_ast.specs.Plain.{inside_of, procedure_of, program_of};
+ghost use Rattle.gh_ast.specs.Plain.{set, new, write, free, call, comparison, points_to, cell, segment, cond_of};
+ghost use Rattle.gh_ast.specs.Plain.{conds_view, assertion_of, assertions_view, statement_of, statements_view};
+ghost use Rattle.gh_ast.specs.Plain.{block_of, body_of, procedure_of, program_of};
 ghost use Rattle.gh_ast.specs.Bare.{ReadBack};
 ghost use Rattle.gh_ast.specs.Printed.{word, reserved, mark, Adds, with_signs, name_shown, operand_shown, expr_shown};
-ghost use Rattle.gh_ast.specs.Printed.{equality, bracketed, is_list, is_star, test_shown, tests_shown, formula_shown};
-ghost use Rattle.gh_ast.specs.Printed.{formulas_shown, targets_shown, statement_shown, statements_shown};
+ghost use Rattle.gh_ast.specs.Printed.{equality, bracketed, is_list, is_star, cond_shown, conds_shown, assertion_shown};
+ghost use Rattle.gh_ast.specs.Printed.{assertions_shown, targets_shown, statement_shown, statements_shown};
 ghost use Rattle.gh_ast.specs.Printed.{otherwise_shown, field_shown, parameter_shown, results_shown, locals_shown};
 ghost use Rattle.gh_ast.specs.Printed.{body_shown, alternatives_shown, procedure_shown, program_text, in_brackets};
 ghost use Rattle.gh_ast.specs.Printed.{in_braces, member_shown, return_shown, ensures_shown, head_shown};
@@ -133,7 +133,7 @@ fn put_parameters(out: &mut Text, parameters: &[Occ]) -> Result<(), AllocError>
 }
 
 fn is_list_test(test: &Cond) -> bool
-    ensures { result ≡ is_list (test_of test.now) }
+    ensures { result ≡ is_list (cond_of test.now) }
 {
     matches!(test, Cond::And(_) | Cond::Or(_))
 }
@@ -142,7 +142,7 @@ fn is_list_test(test: &Cond) -> bool
 #[cycle(condition)]
 fn put_member(out: &mut Text, test: &Cond) -> Result<(), AllocError>
     ensures { OnOk result (Adds out.old out.new
-        (bracketed (is_list (test_of test.now)) (test_shown (test_of test.now)))) }
+        (bracketed (is_list (cond_of test.now)) (cond_shown (cond_of test.now)))) }
 {
     if !is_list_test(test) {
         return put_test(out, test);
@@ -155,7 +155,7 @@ fn put_member(out: &mut Text, test: &Cond) -> Result<(), AllocError>
 
 #[cycle(condition)]
 fn put_tests(out: &mut Text, between: Sign, tests: &[Cond]) -> Result<(), AllocError>
-    ensures { OnOk result (Adds out.old out.new (tests_shown between (tests_view tests.now))) }
+    ensures { OnOk result (Adds out.old out.new (conds_shown between (conds_view tests.now))) }
 {
     let Some((first, rest)) = tests.split_first() else {
         return Ok(());
@@ -170,7 +170,7 @@ fn put_tests(out: &mut Text, between: Sign, tests: &[Cond]) -> Result<(), AllocE
 
 #[cycle(condition)]
 fn put_test(out: &mut Text, test: &Cond) -> Result<(), AllocError>
-    ensures { OnOk result (Adds out.old out.new (test_shown (test_of test.now))) }
+    ensures { OnOk result (Adds out.old out.new (cond_shown (cond_of test.now))) }
 {
     match test {
         Cond::Compare { left, equal, right } => {
@@ -192,7 +192,7 @@ fn put_test(out: &mut Text, test: &Cond) -> Result<(), AllocError>
 }
 
 fn is_star_formula(assertion: &Assertion) -> bool
-    ensures { result ≡ is_star (formula_of assertion.now) }
+    ensures { result ≡ is_star (assertion_of assertion.now) }
 {
     matches!(assertion, Assertion::Star(_))
 }
@@ -203,7 +203,7 @@ fn put_comparison(
     equal: bool,
     right: &Operand,
 ) -> Result<(), AllocError>
-    ensures { OnOk result (Adds out.old out.new (formula_shown (comparison left.now equal right.now))) }
+    ensures { OnOk result (Adds out.old out.new (assertion_shown (comparison left.now equal right.now))) }
 {
     put_operand(out, left)?;
     put_equality(out, equal)?;
@@ -213,7 +213,7 @@ fn put_comparison(
 
 // `x.next |-> y`
 fn put_points_to(out: &mut Text, at: &Occ, to: &Operand) -> Result<(), AllocError>
-    ensures { OnOk result (Adds out.old out.new (formula_shown (points_to at.now to.now))) }
+    ensures { OnOk result (Adds out.old out.new (assertion_shown (points_to at.now to.now))) }
 {
     put_read(out, at)?;
     put_sign(out, Sign::Arrow)?;
@@ -223,7 +223,7 @@ fn put_points_to(out: &mut Text, at: &Occ, to: &Operand) -> Result<(), AllocErro
 
 // `acc(x)`
 fn put_cell(out: &mut Text, at: &Occ) -> Result<(), AllocError>
-    ensures { OnOk result (Adds out.old out.new (formula_shown (cell at.now))) }
+    ensures { OnOk result (Adds out.old out.new (assertion_shown (cell at.now))) }
 {
     put_key(out, Keyword::Acc)?;
     put_sign(out, Sign::ParenOpen)?;
@@ -234,7 +234,7 @@ fn put_cell(out: &mut Text, at: &Occ) -> Result<(), AllocError>
 
 // `lseg(x, y)`
 fn put_segment(out: &mut Text, from: &Operand, to: &Operand) -> Result<(), AllocError>
-    ensures { OnOk result (Adds out.old out.new (formula_shown (segment from.now to.now))) }
+    ensures { OnOk result (Adds out.old out.new (assertion_shown (segment from.now to.now))) }
 {
     put_key(out, Keyword::Lseg)?;
     put_sign(out, Sign::ParenOpen)?;
@@ -247,7 +247,7 @@ fn put_segment(out: &mut Text, from: &Operand, to: &Operand) -> Result<(), Alloc
 
 // `if (` and a test and `)`
 fn put_condition(out: &mut Text, key: Keyword, test: &Cond) -> Result<(), AllocError>
-    ensures { OnOk result (Adds out.old out.new (reserved key ∷ in_brackets (test_shown (test_of test.now)))) }
+    ensures { OnOk result (Adds out.old out.new (reserved key ∷ in_brackets (cond_shown (cond_of test.now)))) }
 {
     put_key(out, key)?;
     put_sign(out, Sign::ParenOpen)?;
@@ -259,7 +259,7 @@ fn put_condition(out: &mut Text, key: Keyword, test: &Cond) -> Result<(), AllocE
 // An assertion in braces.
 #[cycle(formula)]
 fn put_part(out: &mut Text, part: &Assertion) -> Result<(), AllocError>
-    ensures { OnOk result (Adds out.old out.new (in_braces (formula_shown (formula_of part.now)))) }
+    ensures { OnOk result (Adds out.old out.new (in_braces (assertion_shown (assertion_of part.now)))) }
 {
     put_sign(out, Sign::BraceOpen)?;
     put_assertion(out, part)?;
@@ -270,7 +270,7 @@ fn put_part(out: &mut Text, part: &Assertion) -> Result<(), AllocError>
 // A member of a list of assertions.
 #[cycle(formula)]
 fn put_item(out: &mut Text, item: &Assertion) -> Result<(), AllocError>
-    ensures { OnOk result (Adds out.old out.new (member_shown (formula_of item.now))) }
+    ensures { OnOk result (Adds out.old out.new (member_shown (assertion_of item.now))) }
 {
     if !is_star_formula(item) {
         return put_assertion(out, item);
@@ -283,7 +283,7 @@ fn put_item(out: &mut Text, item: &Assertion) -> Result<(), AllocError>
 
 #[cycle(formula)]
 fn put_items(out: &mut Text, items: &[Assertion]) -> Result<(), AllocError>
-    ensures { OnOk result (Adds out.old out.new (formulas_shown (formulas_view items.now))) }
+    ensures { OnOk result (Adds out.old out.new (assertions_shown (assertions_view items.now))) }
 {
     let Some((first, rest)) = items.split_first() else {
         return Ok(());
@@ -298,7 +298,7 @@ fn put_items(out: &mut Text, items: &[Assertion]) -> Result<(), AllocError>
 
 #[cycle(formula)]
 fn put_assertion(out: &mut Text, assertion: &Assertion) -> Result<(), AllocError>
-    ensures { OnOk result (Adds out.old out.new (formula_shown (formula_of assertion.now))) }
+    ensures { OnOk result (Adds out.old out.new (assertion_shown (assertion_of assertion.now))) }
 {
     match assertion {
         Assertion::Emp => put_key(out, Keyword::Emp),
@@ -329,7 +329,7 @@ fn put_statements(out: &mut Text, statements: &[Stmt]) -> Result<(), AllocError>
 
 #[cycle(statement)]
 fn put_block(out: &mut Text, block: &Block) -> Result<(), AllocError>
-    ensures { OnOk result (Adds out.old out.new (in_braces (statements_shown (part_of block.now).statements))) }
+    ensures { OnOk result (Adds out.old out.new (in_braces (statements_shown (block_of block.now).statements))) }
 {
     put_sign(out, Sign::BraceOpen)?;
     put_statements(out, block.statements.as_slice())?;
@@ -340,7 +340,7 @@ fn put_block(out: &mut Text, block: &Block) -> Result<(), AllocError>
 // A block after `else`, where it isn't empty.
 #[cycle(statement)]
 fn put_otherwise(out: &mut Text, block: &Block) -> Result<(), AllocError>
-    ensures { OnOk result (Adds out.old out.new (otherwise_shown (part_of block.now).statements)) }
+    ensures { OnOk result (Adds out.old out.new (otherwise_shown (block_of block.now).statements)) }
 {
     let statements = block.statements.as_slice();
     if statements.is_empty() {
@@ -526,7 +526,7 @@ fn put_locals(out: &mut Text, locals: &[Occ]) -> Result<(), AllocError>
 }
 
 fn put_body(out: &mut Text, body: &Body) -> Result<(), AllocError>
-    ensures { OnOk result (Adds out.old out.new (body_shown (Some (inside_of body.now)))) }
+    ensures { OnOk result (Adds out.old out.new (body_shown (Some (body_of body.now)))) }
 {
     put_sign(out, Sign::BraceOpen)?;
     put_locals(out, body.locals.as_slice())?;
@@ -537,7 +537,7 @@ fn put_body(out: &mut Text, body: &Body) -> Result<(), AllocError>
 
 // The body, or `;` in its place.
 fn put_rest(out: &mut Text, body: &Option<Body>) -> Result<(), AllocError>
-    ensures { OnOk result (Adds out.old out.new (body_shown (option_map inside_of body.now))) }
+    ensures { OnOk result (Adds out.old out.new (body_shown (option_map body_of body.now))) }
 {
     match body {
         None => put_sign(out, Sign::Semicolon),
@@ -547,7 +547,7 @@ fn put_rest(out: &mut Text, body: &Option<Body>) -> Result<(), AllocError>
 
 // Alternatives with `||` between two.
 fn put_alternatives(out: &mut Text, alternatives: &[Assertion]) -> Result<(), AllocError>
-    ensures { OnOk result (Adds out.old out.new (alternatives_shown (map formula_of alternatives.now))) }
+    ensures { OnOk result (Adds out.old out.new (alternatives_shown (map assertion_of alternatives.now))) }
 {
     let Some((first, rest)) = alternatives.split_first() else {
         return Ok(());
@@ -562,7 +562,7 @@ fn put_alternatives(out: &mut Text, alternatives: &[Assertion]) -> Result<(), Al
 
 fn put_requires(out: &mut Text, condition: &Assertion) -> Result<(), AllocError>
     ensures { OnOk result (Adds out.old out.new
-        (reserved Keyword.Requires ∷ formula_shown (formula_of condition.now))) }
+        (reserved Keyword.Requires ∷ assertion_shown (assertion_of condition.now))) }
 {
     put_key(out, Keyword::Requires)?;
     put_assertion(out, condition)?;
@@ -570,7 +570,7 @@ fn put_requires(out: &mut Text, condition: &Assertion) -> Result<(), AllocError>
 }
 
 fn put_ensures(out: &mut Text, alternatives: &[Assertion]) -> Result<(), AllocError>
-    ensures { OnOk result (Adds out.old out.new (ensures_shown (map formula_of alternatives.now))) }
+    ensures { OnOk result (Adds out.old out.new (ensures_shown (map assertion_of alternatives.now))) }
 {
     put_key(out, Keyword::Ensures)?;
     put_alternatives(out, alternatives)?;

@@ -5,7 +5,8 @@ use Rattle.gh_base.specs.Outside.{next, Counts, MakesAtMost}
 use Rattle.gh_base.specs.Reading.{IsReading, calls_for}
 
 -- one call after some others
-pub one_more : (n m : ℕ) (old mid new : Option ℕ) → MakesAtMost n old mid → Counts mid new → n + 1 ≤ m → MakesAtMost m old new
+pub one_more : (n m : ℕ) (old mid new : Option ℕ) → MakesAtMost n old mid → Counts mid new → n + 1 ≤ m
+    → MakesAtMost m old new
 one_more n m None mid new few counted fits = tt
 one_more n m (Some a) None new few counted fits = absurd few
 one_more n m (Some a) (Some b) new few counted fits =
@@ -22,7 +23,8 @@ fewer n m (Some a) None few fits = absurd few
 fewer n m (Some a) (Some b) few fits = omega (arith, few, fits)
 
 -- the bytes that were read so far leave a call for one `begin`, each of them, and one more
-pub fits : (bytes : Option (Option (List ℕ))) (text : List ℕ) (left : Option (List ℕ)) (limit : ℕ) → IsReading bytes text left → length text ≤ limit → length text + 2 ≤ calls_for bytes limit
+pub fits : (bytes : Option (Option (List ℕ))) (text : List ℕ) (left : Option (List ℕ)) (limit : ℕ)
+    → IsReading bytes text left → length text ≤ limit → length text + 2 ≤ calls_for bytes limit
 fits None text left limit h short = omega (arith, short)
 fits (Some None) text left limit h short = absurd cc
 fits (Some (Some whole)) text left limit h short =

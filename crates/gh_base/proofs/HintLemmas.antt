@@ -17,13 +17,15 @@ first_or_other x y xs at = by at.0 at.1 at.2
     by (suc k) less is = inr (k, omega (arith, less), is)
 
 -- what comes to a contradiction by hints does so by propagation
-refuted_by_units : (clauses hints : List (List Lit)) (assumed set : List Lit) → All (Contains clauses) hints → IsRefutedByHints hints set
+refuted_by_units : (clauses hints : List (List Lit)) (assumed set : List Lit) → All (Contains clauses) hints
+    → IsRefutedByHints hints set
     → ((l : Lit) → Contains set l → Propagated clauses assumed l) → IsRefutedByUnits clauses assumed
 refuted_by_units clauses _ assumed _ among (refuted c hints set all) has =
     inr (c, All-head (Contains clauses) c hints among, λ k d less. has (opposite (get_or c k d)) (all k d less))
 refuted_by_units clauses _ assumed _ among (joined c hints set l one more) has =
     let forced_one : Propagated clauses assumed l =
-    forced c l (All-head (Contains clauses) c hints among) one.there (λ m in_c ne. has (opposite m) (one.others m in_c ne)) in
+    forced c l (All-head (Contains clauses) c hints among) one.there
+    (λ m in_c ne. has (opposite m) (one.others m in_c ne)) in
     refuted_by_units clauses hints assumed (l ∷ set) (All-tail (Contains clauses) c hints among) more (λ m there.
     elim (first_or_other l m set there) as (λ _. Propagated clauses assumed m) [
       | inl same ↦ subst (Propagated clauses assumed) same forced_one
@@ -36,4 +38,5 @@ follow_by_units clauses hints clause among (inr by_hints) =
     refuted_by_units clauses hints (map opposite clause) (map opposite clause) among by_hints (λ l there. given l there)
 
 pub are_true : HintsShowTruth
-are_true clauses hints clause m among all shown = sound clauses clause m all (follow_by_units clauses hints clause among shown)
+are_true clauses hints clause m among all shown =
+    sound clauses clause m all (follow_by_units clauses hints clause among shown)

@@ -1,5 +1,6 @@
 -- Elements of a list by place.
-use Rattle.std.proofs.Common.{◌≡◌, ◌≢◌, ◌⊎◌, ℕ, zero, suc, ◌+◌, ◌<◌, ◌≤◌, List, [], ◌∷◌, ◌++◌, length, take, Some, Bool, true, false, ◌||◌, inl, inr, refl, ap, arith}
+use Rattle.std.proofs.Common.{◌≡◌, ◌≢◌, ◌⊎◌, ℕ, zero, suc, ◌+◌, ◌<◌, ◌≤◌, List, [], ◌∷◌, ◌++◌, length, take, Some, Bool}
+use Rattle.std.proofs.Common.{true, false, ◌||◌, inl, inr, refl, ap, arith}
 use Rattle.std.specs.Prelude.{slice_get, slice_set}
 
 pub get_within : {X : Type 0} (xs : List X) (i : ℕ) (x : X) → slice_get xs i ≡ Some x → i < length xs
@@ -7,12 +8,14 @@ get_within [] i x e = cc
 get_within (y ∷ xs) zero x e = omega arith
 get_within (y ∷ xs) (suc i) x e = omega (arith, get_within xs i x e)
 
-pub get_front : {X : Type 0} (xs ys : List X) (i : ℕ) (x : X) → slice_get xs i ≡ Some x → slice_get (xs ++ ys) i ≡ Some x
+pub get_front : {X : Type 0} (xs ys : List X) (i : ℕ) (x : X) → slice_get xs i ≡ Some x
+    → slice_get (xs ++ ys) i ≡ Some x
 get_front [] ys i x e = cc
 get_front (y ∷ xs) ys zero x e = e
 get_front (y ∷ xs) ys (suc i) x e = get_front xs ys i x e
 
-pub get_push : {X : Type 0} (xs : List X) (y : X) (i : ℕ) (x : X) → slice_get (xs ++ y ∷ []) i ≡ Some x → (slice_get xs i ≡ Some x) ⊎ ((i ≡ length xs) × (y ≡ x))
+pub get_push : {X : Type 0} (xs : List X) (y : X) (i : ℕ) (x : X) → slice_get (xs ++ y ∷ []) i ≡ Some x
+    → (slice_get xs i ≡ Some x) ⊎ ((i ≡ length xs) × (y ≡ x))
 get_push [] y zero x e = inr (refl, cc)
 get_push [] y (suc i) x e = cc
 get_push (z ∷ xs) y zero x e = inl e
@@ -22,13 +25,15 @@ pub get_last : {X : Type 0} (xs : List X) (y : X) → slice_get (xs ++ y ∷ [])
 get_last [] y = refl
 get_last (x ∷ xs) y = get_last xs y
 
-pub get_take : {X : Type 0} (n : ℕ) (xs : List X) (i : ℕ) (x : X) → slice_get (take n xs) i ≡ Some x → (i < n) × (slice_get xs i ≡ Some x)
+pub get_take : {X : Type 0} (n : ℕ) (xs : List X) (i : ℕ) (x : X) → slice_get (take n xs) i ≡ Some x
+    → (i < n) × (slice_get xs i ≡ Some x)
 get_take zero xs i x e = cc
 get_take (suc n) [] i x e = cc
 get_take (suc n) (y ∷ xs) zero x e = (omega arith, e)
 get_take (suc n) (y ∷ xs) (suc i) x e = let r = get_take n xs i x e in (omega (arith, r.0), r.1)
 
-pub take_get : {X : Type 0} (n : ℕ) (xs : List X) (i : ℕ) (x : X) → i < n → slice_get xs i ≡ Some x → slice_get (take n xs) i ≡ Some x
+pub take_get : {X : Type 0} (n : ℕ) (xs : List X) (i : ℕ) (x : X) → i < n → slice_get xs i ≡ Some x
+    → slice_get (take n xs) i ≡ Some x
 take_get zero xs i x h e = absurd (omega arith)
 take_get (suc n) [] i x h e = cc
 take_get (suc n) (y ∷ xs) zero x h e = e
@@ -39,7 +44,8 @@ get_set_same [] i y h = absurd (omega arith)
 get_set_same (x ∷ xs) zero y h = refl
 get_set_same (x ∷ xs) (suc i) y h = get_set_same xs i y (omega arith)
 
-pub get_set_other : {X : Type 0} (xs : List X) (i j : ℕ) (y : X) → j ≢ i → slice_get (slice_set xs i y) j ≡ slice_get xs j
+pub get_set_other : {X : Type 0} (xs : List X) (i j : ℕ) (y : X) → j ≢ i
+    → slice_get (slice_set xs i y) j ≡ slice_get xs j
 get_set_other [] i j y h = refl
 get_set_other (x ∷ xs) zero zero y h = absurd (h refl)
 get_set_other (x ∷ xs) zero (suc j) y h = refl

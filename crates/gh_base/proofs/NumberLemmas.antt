@@ -1,5 +1,6 @@
 -- Numbers of atoms.
-use Rattle.std.proofs.Common.{lit<, ◌≡◌, ℕ, suc, zero, ◌+◌, ◌-◌, ◌*◌, ◌^◌, ◌<◌, ◌≤◌, inl, inr, arith, sym, ap, refl, ◌∙◌}
+use Rattle.std.proofs.Common.{lit<, ◌≡◌, ℕ, suc, zero, ◌+◌, ◌-◌, ◌*◌, ◌^◌, ◌<◌, ◌≤◌, inl, inr, arith, sym, ap, refl}
+use Rattle.std.proofs.Common.{◌∙◌}
 use Rattle.std.proofs.lemmas.Bool.{cases_order, cases_lt}
 use Rattle.std.proofs.Math.Nat.{mul-le-mul_right}
 use Rattle.std.proofs.lemmas.Nat.{mul-add-lt, mul-lt, same_from_place}
@@ -7,14 +8,16 @@ use Rattle.gh_base.specs.declared.atom.Term.{Term}
 use Rattle.gh_base.specs.declared.atom.Atom.{Atom}
 use Rattle.gh_base.specs.declared.atom.Atom.TheVariants.{Eq, Btwn, Hop, Alloc, Def}
 use Rattle.gh_base.specs.declared.sizes.Sizes.{Sizes}
-use Rattle.gh_base.specs.Atoms.{IsInRange, pairs_below, btwn_start, hop_start, alloc_start, def_start, count_of, number_of, IsRow, AreNumbersApart}
+use Rattle.gh_base.specs.Atoms.{IsInRange, pairs_below, btwn_start, hop_start, alloc_start, def_start, count_of}
+use Rattle.gh_base.specs.Atoms.{number_of, IsRow, AreNumbersApart}
 
 pub pairs_more : (b : ℕ) → pairs_below (b + 1) ≡ pairs_below b + (b + 1)
 pairs_more b = omega arith
 
 pub pairs_above : (a d : ℕ) → pairs_below a ≤ pairs_below (a + d)
 pairs_above a zero = omega arith
-pairs_above a (suc d) = let more : pairs_below (a + suc d) ≡ pairs_below (a + d) + (a + d + 1) = omega arith in omega (arith, pairs_above a d)
+pairs_above a (suc d) = let more : pairs_below (a + suc d) ≡ pairs_below (a + d) + (a + d + 1) = omega arith in
+    omega (arith, pairs_above a d)
 
 pub pairs_grow : (a b : ℕ) → a < b → pairs_below a + (a + 1) ≤ pairs_below b
 pairs_grow a b h =
@@ -26,7 +29,8 @@ same_greater : (a b a' b' : ℕ) → a ≤ b → a' ≤ b' → pairs_below b + a
 same_greater a b a' b' h h' e =
     elim (cases_order b b') as (λ _. b ≡ b') [
       | inl same ↦ same
-      | inr w ↦ elim w as (λ _. b ≡ b') [ inl lt ↦ absurd (omega (arith, pairs_grow b b' lt)) | inr gt ↦ absurd (omega (arith, pairs_grow b' b gt)) ]
+      | inr w ↦ elim w as (λ _. b ≡ b')
+          [ inl lt ↦ absurd (omega (arith, pairs_grow b b' lt)) | inr gt ↦ absurd (omega (arith, pairs_grow b' b gt)) ]
     ]
 
 same_term : (a b : Term) → a.0 ≡ b.0 → a ≡ b
@@ -45,7 +49,8 @@ place_4 v n x y z V h i j k = omega (arith, place_2 ((v * n + x) * n + y) n z (V
 pub eq_below : (s : Sizes) (a b : Term) → IsInRange s (Eq a b) → number_of s (Eq a b) < btwn_start s
 eq_below s a b p = omega (arith, pairs_grow b.0 s.terms p.1, p.0)
 
-pub btwn_below : (s : Sizes) (v : ℕ) (x y z : Term) → IsInRange s (Btwn v x y z) → number_of s (Btwn v x y z) < hop_start s
+pub btwn_below : (s : Sizes) (v : ℕ) (x y z : Term) → IsInRange s (Btwn v x y z)
+    → number_of s (Btwn v x y z) < hop_start s
 btwn_below s v x y z p = omega (arith, place_4 v s.terms x.0 y.0 z.0 s.versions p.0 p.1 p.2 p.3)
 
 pub hop_below : (s : Sizes) (v : ℕ) (x y : Term) → IsInRange s (Hop v x y) → number_of s (Hop v x y) < alloc_start s
@@ -57,10 +62,17 @@ alloc_below s v x p = omega (arith, place_2 v s.terms x.0 s.versions p.0 p.1)
 -- a row of a place that lies among this many rows is one of them
 pub row_below : (place terms row rows : ℕ) (t : Term) → IsRow place terms row t → place < rows * terms → row < rows
 row_below place terms row rows t h within =
-    elim (cases_lt row rows) as (λ _. row < rows) [ inl lt ↦ lt | inr ge ↦ absurd (omega (arith, h.is, mul-le-mul_right terms ge)) ]
+    elim (cases_lt row rows) as (λ _. row < rows)
+    [ inl lt ↦ lt | inr ge ↦ absurd (omega (arith, h.is, mul-le-mul_right terms ge)) ]
 
 pub cube_below : (v n : ℕ) → v < 2 ^ 8 → n < 2 ^ 8 → v * n * n * n < 2 ^ 32
-cube_below v n h i = omega (arith, mul-lt v n (2 ^ 8) (2 ^ 8) h i, mul-lt (v * n) n (2 ^ 16) (2 ^ 8) (mul-lt v n (2 ^ 8) (2 ^ 8) h i) i, mul-lt (v * n * n) n (2 ^ 24) (2 ^ 8) (mul-lt (v * n) n (2 ^ 16) (2 ^ 8) (mul-lt v n (2 ^ 8) (2 ^ 8) h i) i) i)
+cube_below v n h i =
+    omega (
+      arith,
+      mul-lt v n (2 ^ 8) (2 ^ 8) h i,
+      mul-lt (v * n) n (2 ^ 16) (2 ^ 8) (mul-lt v n (2 ^ 8) (2 ^ 8) h i) i,
+      mul-lt (v * n * n) n (2 ^ 24) (2 ^ 8) (mul-lt (v * n) n (2 ^ 16) (2 ^ 8) (mul-lt v n (2 ^ 8) (2 ^ 8) h i) i) i,
+    )
 
 pub number_below : (s : Sizes) (a : Atom) → IsInRange s a → number_of s a < count_of s
 number_below s (Eq a b) p = omega (arith, eq_below s a b p)
@@ -80,25 +92,51 @@ shape (Def k) = 4
 -- the shape of a number
 abbrev IsShape : Sizes → ℕ → ℕ → Type 0
 IsShape s n shape =
-    (n < btwn_start s → shape ≡ 0) × (btwn_start s ≤ n → n < hop_start s → shape ≡ 1) × (hop_start s ≤ n → n < alloc_start s → shape ≡ 2)
+    (n < btwn_start s → shape ≡ 0) × (btwn_start s ≤ n → n < hop_start s → shape ≡ 1)
+    × (hop_start s ≤ n → n < alloc_start s → shape ≡ 2)
     × (alloc_start s ≤ n → n < def_start s → shape ≡ 3) × (def_start s ≤ n → shape ≡ 4)
 
 shape_is : (s : Sizes) (a : Atom) → IsInRange s a → IsShape s (number_of s a) (shape a)
 shape_is s (Eq a b) p =
     let h = eq_below s a b p in
-    let n = number_of s (Eq a b) in
-    (λ _. refl, λ g _. absurd (omega arith), λ g _. absurd (omega arith), λ g _. absurd (omega arith), λ g. absurd (omega arith))
+    let n = number_of s (Eq a b) in (
+      λ _. refl,
+      λ g _. absurd (omega arith),
+      λ g _. absurd (omega arith),
+      λ g _. absurd (omega arith),
+      λ g. absurd (omega arith),
+    )
 shape_is s (Btwn v x y z) p =
-    let h = btwn_below s v x y z p in
-    (λ g. absurd (omega arith), λ _ _. refl, λ g _. absurd (omega arith), λ g _. absurd (omega arith), λ g. absurd (omega arith))
+    let h = btwn_below s v x y z p in (
+      λ g. absurd (omega arith),
+      λ _ _. refl,
+      λ g _. absurd (omega arith),
+      λ g _. absurd (omega arith),
+      λ g. absurd (omega arith),
+    )
 shape_is s (Hop v x y) p =
-    let h = hop_below s v x y p in
-    (λ g. absurd (omega arith), λ _ g. absurd (omega arith), λ _ _. refl, λ g _. absurd (omega arith), λ g. absurd (omega arith))
+    let h = hop_below s v x y p in (
+      λ g. absurd (omega arith),
+      λ _ g. absurd (omega arith),
+      λ _ _. refl,
+      λ g _. absurd (omega arith),
+      λ g. absurd (omega arith),
+    )
 shape_is s (Alloc v x) p =
-    let h = alloc_below s v x p in
-    (λ g. absurd (omega arith), λ _ g. absurd (omega arith), λ _ g. absurd (omega arith), λ _ _. refl, λ g. absurd (omega arith))
-shape_is s (Def k) p =
-    (λ g. absurd (omega arith), λ _ g. absurd (omega arith), λ _ g. absurd (omega arith), λ _ g. absurd (omega arith), λ _. refl)
+    let h = alloc_below s v x p in (
+      λ g. absurd (omega arith),
+      λ _ g. absurd (omega arith),
+      λ _ g. absurd (omega arith),
+      λ _ _. refl,
+      λ g. absurd (omega arith),
+    )
+shape_is s (Def k) p = (
+  λ g. absurd (omega arith),
+  λ _ g. absurd (omega arith),
+  λ _ g. absurd (omega arith),
+  λ _ g. absurd (omega arith),
+  λ _. refl,
+)
 
 one_shape : (s : Sizes) (n i j : ℕ) → IsShape s n i → IsShape s n j → i ≡ j
 one_shape s n i j p q =
@@ -108,12 +146,14 @@ one_shape s n i j p q =
         | inl b ↦ p.1 a b ∙ sym (q.1 a b)
         | inr b ↦ elim (cases_lt n (alloc_start s)) as (λ _. i ≡ j) [
           | inl c ↦ p.2 b c ∙ sym (q.2 b c)
-          | inr c ↦ elim (cases_lt n (def_start s)) as (λ _. i ≡ j) [ inl d ↦ p.3 c d ∙ sym (q.3 c d) | inr d ↦ p.4 d ∙ sym (q.4 d) ]
+          | inr c ↦ elim (cases_lt n (def_start s)) as (λ _. i ≡ j)
+              [ inl d ↦ p.3 c d ∙ sym (q.3 c d) | inr d ↦ p.4 d ∙ sym (q.4 d) ]
         ]
       ]
     ]
 
-same_shape : (s : Sizes) (a b : Atom) → IsInRange s a → IsInRange s b → number_of s a ≡ number_of s b → shape a ≡ shape b
+same_shape : (s : Sizes) (a b : Atom) → IsInRange s a → IsInRange s b → number_of s a ≡ number_of s b
+    → shape a ≡ shape b
 same_shape s a b p q e = one_shape s (number_of s a) (shape a) (shape b) (shape_is s a p) (rw e (shape_is s b q))
 
 lower : {X : Type 0} (i j : ℕ) → i ≡ j → i < j → X
@@ -139,9 +179,13 @@ apart s (Eq a b) (Def k') p q e =
 apart s (Btwn v x y z) (Eq a' b') p q e =
     higher 1 0 (same_shape s (Btwn v x y z) (Eq a' b') p q e) (lit< tt)
 apart s (Btwn v x y z) (Btwn v' x' y' z') p q e =
-    let e : btwn_start s + (((v * s.terms + x.0) * s.terms + y.0) * s.terms + z.0) ≡ btwn_start s + (((v' * s.terms + x'.0) * s.terms + y'.0) * s.terms + z'.0) = e in
-    let places : ((v * s.terms + x.0) * s.terms + y.0) * s.terms + z.0 ≡ ((v' * s.terms + x'.0) * s.terms + y'.0) * s.terms + z'.0 = omega arith in
-    let h = same_from_place ((v * s.terms + x.0) * s.terms + y.0) z.0 ((v' * s.terms + x'.0) * s.terms + y'.0) z'.0 s.terms p.3 q.3 places in
+    let e : btwn_start s + (((v * s.terms + x.0) * s.terms + y.0) * s.terms + z.0)
+    ≡ btwn_start s + (((v' * s.terms + x'.0) * s.terms + y'.0) * s.terms + z'.0) = e in
+    let places : ((v * s.terms + x.0) * s.terms + y.0) * s.terms + z.0
+    ≡ ((v' * s.terms + x'.0) * s.terms + y'.0) * s.terms + z'.0 = omega arith in
+    let h =
+    same_from_place ((v * s.terms + x.0) * s.terms + y.0) z.0 ((v' * s.terms + x'.0) * s.terms + y'.0) z'.0 s.terms
+    p.3 q.3 places in
     let i = same_from_place (v * s.terms + x.0) y.0 (v' * s.terms + x'.0) y'.0 s.terms p.2 q.2 h.0 in
     let j = same_from_place v x.0 v' x'.0 s.terms p.1 q.1 i.0 in
     cc (j.0, same_term x x' j.1, same_term y y' i.1, same_term z z' h.1)
@@ -156,7 +200,8 @@ apart s (Hop v x y) (Eq a' b') p q e =
 apart s (Hop v x y) (Btwn v' x' y' z') p q e =
     higher 2 1 (same_shape s (Hop v x y) (Btwn v' x' y' z') p q e) (lit< tt)
 apart s (Hop v x y) (Hop v' x' y') p q e =
-    let e : hop_start s + ((v * s.terms + x.0) * s.terms + y.0) ≡ hop_start s + ((v' * s.terms + x'.0) * s.terms + y'.0) = e in
+    let e : hop_start s + ((v * s.terms + x.0) * s.terms + y.0)
+    ≡ hop_start s + ((v' * s.terms + x'.0) * s.terms + y'.0) = e in
     let places : (v * s.terms + x.0) * s.terms + y.0 ≡ (v' * s.terms + x'.0) * s.terms + y'.0 = omega arith in
     let i = same_from_place (v * s.terms + x.0) y.0 (v' * s.terms + x'.0) y'.0 s.terms p.2 q.2 places in
     let j = same_from_place v x.0 v' x'.0 s.terms p.1 q.1 i.0 in

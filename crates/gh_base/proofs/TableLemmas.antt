@@ -12,20 +12,25 @@ pub changes_atom : (p : Partial) (atom : Atom) (value : Option Bool) → IsParti
     → ChangesAtom p (with_value p atom value) atom value
 changes_atom p atom value h inside = record {
   sizes = refl;
-  changed = let within : number_of p.sizes atom < length p.values = omega (arith, number_below p.sizes atom inside, h.all) in rw get_or-set_same;
+  changed =
+      let within : number_of p.sizes atom < length p.values = omega (arith, number_below p.sizes atom inside, h.all) in
+      rw get_or-set_same;
   others = λ a there ne.
-      let apart_too : number_of p.sizes a ≢ number_of p.sizes atom = λ e. ne (apart p.sizes a atom there inside e) in rw get_or-set_other;
+      let apart_too : number_of p.sizes a ≢ number_of p.sizes atom = λ e. ne (apart p.sizes a atom there inside e) in
+      rw get_or-set_other;
 }
 
 -- the truth of an atom that is no equality is in the table
-in_table : (s : Tables) (a : Atom) → (IsEquality a → ⊥) → atom_truth (interpretation_of s) a ≡ (interpretation_of s).table a
+in_table : (s : Tables) (a : Atom) → (IsEquality a → ⊥)
+    → atom_truth (interpretation_of s) a ≡ (interpretation_of s).table a
 in_table s (Eq a b) n = absurd (n tt)
 in_table s (Btwn v x y z) n = refl
 in_table s (Hop v x y) n = refl
 in_table s (Alloc v x) n = refl
 in_table s (Def k) n = refl
 
-stays : (s : Tables) (atom : Atom) (value : Bool) (a : Atom) → (interpretation_of (with_truth s atom value)).table a ≡ (interpretation_of s).table a
+stays : (s : Tables) (atom : Atom) (value : Bool) (a : Atom)
+    → (interpretation_of (with_truth s atom value)).table a ≡ (interpretation_of s).table a
     → atom_truth (interpretation_of (with_truth s atom value)) a ≡ atom_truth (interpretation_of s) a
 stays s atom value (Eq a b) e = refl
 stays s atom value (Btwn v x y z) e = e
@@ -33,7 +38,8 @@ stays s atom value (Hop v x y) e = e
 stays s atom value (Alloc v x) e = e
 stays s atom value (Def k) e = e
 
-pub changes_truth : (s : Tables) (atom : Atom) (value : Bool) → AreTables s → IsInRange s.sizes atom → (IsEquality atom → ⊥)
+pub changes_truth : (s : Tables) (atom : Atom) (value : Bool) → AreTables s → IsInRange s.sizes atom
+    → (IsEquality atom → ⊥)
     → ChangesTruth s (with_truth s atom value) atom value
 changes_truth s atom value h inside n = record {
   sizes = refl;

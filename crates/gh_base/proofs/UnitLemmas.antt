@@ -1,5 +1,6 @@
 -- Unit propagation.
-use Rattle.std.proofs.Common.{◌≡◌, ◌≢◌, ◌⊎◌, inl, inr, suc, Bool, true, false, not, List, [], ◌∷◌, All, map, refl, ◌∙◌, ap, arith, get_or}
+use Rattle.std.proofs.Common.{◌≡◌, ◌≢◌, ◌⊎◌, inl, inr, suc, Bool, true, false, not, List, [], ◌∷◌, All, map, refl, ◌∙◌}
+use Rattle.std.proofs.Common.{ap, arith, get_or}
 use Rattle.std.proofs.lemmas.List.Elements.{All-contains, All-cons, All-map}
 use Rattle.gh_base.specs.declared.atom.Lit.{Lit}
 use Rattle.gh_base.specs.Atoms.{opposite}
@@ -40,7 +41,8 @@ true_or_false m (l ∷ ls) =
     ]
 
 -- a literal that propagation gives is true where the clauses and the assumed literals are
-pub units_true : (m : Interpretation) (clauses : List (List Lit)) (assumed : List Lit) → All (IsClauseTrue m) clauses → All (IsLitTrue m) assumed
+pub units_true : (m : Interpretation) (clauses : List (List Lit)) (assumed : List Lit) → All (IsClauseTrue m) clauses
+    → All (IsLitTrue m) assumed
     → (l : Lit) → Propagated clauses assumed l → IsLitTrue m l
 units_true m clauses assumed all before _ (given l there) = All-contains (IsLitTrue m) assumed l before there
 units_true m clauses assumed all before _ (forced c l among there rest) =
@@ -49,7 +51,8 @@ units_true m clauses assumed all before _ (forced c l among there rest) =
       | inl t ↦ t
       | inr f ↦
           let apart : w.1 ≢ l = λ e. cc (ap (lit_truth m) e) in
-          let turned : lit_truth m (opposite w.1) ≡ true = units_true m clauses assumed all before (opposite w.1) (rest w.1 (w.0, w.2, w.3) apart) in
+          let turned : lit_truth m (opposite w.1) ≡ true =
+          units_true m clauses assumed all before (opposite w.1) (rest w.1 (w.0, w.2, w.3) apart) in
           absurd (cc (turned, truth_of_opposite m w.1, ap not w.4))
     ]
 
@@ -62,12 +65,17 @@ sound clauses clause m all follows =
     elim (true_or_false m clause) as (λ _. IsClauseTrue m clause) [
       | inl t ↦ t
       | inr none ↦
-          let before : All (IsLitTrue m) (map opposite clause) = All-map (IsLitTrue m) opposite clause (λ k d h. truth_of_opposite m (get_or clause k d) ∙ ap not (none k d h)) in
+          let before : All (IsLitTrue m) (map opposite clause) =
+          All-map (IsLitTrue m) opposite clause
+          (λ k d h. truth_of_opposite m (get_or clause k d) ∙ ap not (none k d h)) in
           elim follows as (λ _. IsClauseTrue m clause) [
-            | inl w ↦ apart_truths m w.0 (units_true m clauses _ all before w.0 w.1) (units_true m clauses _ all before (opposite w.0) w.2)
+            | inl w ↦ apart_truths m w.0 (units_true m clauses _ all before w.0 w.1)
+                (units_true m clauses _ all before (opposite w.0) w.2)
             | inr w ↦
                 let t = All-contains (IsClauseTrue m) clauses w.0 all w.1 in
-                let u = All-contains (λ x. Propagated clauses (map opposite clause) (opposite x)) w.0 t.1 w.2 (t.0, t.2, t.3) in
+                let u =
+                All-contains (λ x. Propagated clauses (map opposite clause) (opposite x)) w.0 t.1 w.2
+                (t.0, t.2, t.3) in
                 apart_truths m t.1 t.4 (units_true m clauses _ all before (opposite t.1) u)
           ]
     ]

@@ -49,14 +49,16 @@ HasBegun result begun = begun ≡ true
 
 -- at most `most` bytes of the input were read, and the others are left
 abbrev pub StandsWithin : Option (List ℕ) → ℕ → Option (List ℕ) → Type 0
-StandsWithin bytes most left = (text : List ℕ) × (n : ℕ) × (bytes ≡ Some text) × (n ≤ most) × (left ≡ Some (drop n text))
+StandsWithin bytes most left =
+    (text : List ℕ) × (n : ℕ) × (bytes ≡ Some text) × (n ≤ most) × (left ≡ Some (drop n text))
 
 -- what is left of the input: nothing where it was read or is absent, what comes after limit + 1 bytes where it is too
 -- long, and else what wasn't read, of which a fault may leave nothing
 abbrev pub ReadsTo : {T : Type 0} → Option (Option (List ℕ)) → ℕ → Result T InputError → Option (List ℕ) → Type 0
 ReadsTo None limit result left = ⊤
 ReadsTo (Some bytes) limit (Ok text) left = left ≡ Some []
-ReadsTo (Some bytes) limit (Err TooLong) left = (text : List ℕ) × (bytes ≡ Some text) × (left ≡ Some (drop (limit + 1) text))
+ReadsTo (Some bytes) limit (Err TooLong) left =
+    (text : List ℕ) × (bytes ≡ Some text) × (left ≡ Some (drop (limit + 1) text))
 ReadsTo (Some bytes) limit (Err Absent) left = left ≡ Some []
 ReadsTo (Some bytes) limit (Err ReadFault) left = (left ≡ Some []) ⊎ StandsWithin bytes limit left
 ReadsTo (Some bytes) limit (Err OutOfMemory) left = StandsWithin bytes (limit + 1) left

@@ -32,7 +32,10 @@ pub record AreTables (s : Tables) : Type 0 where
 
 -- what a structure means
 abbrev pub interpretation_of : Tables → Interpretation
-interpretation_of s = record { class = class_at s.classes; table = λ atom. slice_index_or s.table (number_of s.sizes atom) false }
+interpretation_of s = record {
+  class = class_at s.classes;
+  table = λ atom. slice_index_or s.table (number_of s.sizes atom) false;
+}
 
 abbrev pub IsEquality : Atom → Type 0
 IsEquality (Eq a b) = Unit {0}
@@ -54,4 +57,5 @@ pub record ChangesTruth (old new : Tables) (atom : Atom) (value : Bool) : Type 0
   pub sizes : new.sizes ≡ old.sizes
   pub classes : new.classes ≡ old.classes
   pub changed : atom_truth (interpretation_of new) atom ≡ value
-  pub others : (a : Atom) → IsInRange old.sizes a → a ≢ atom → atom_truth (interpretation_of new) a ≡ atom_truth (interpretation_of old) a
+  pub others : (a : Atom) → IsInRange old.sizes a → a ≢ atom
+      → atom_truth (interpretation_of new) a ≡ atom_truth (interpretation_of old) a

@@ -10,12 +10,12 @@ use Rattle.std.proofs.lemmas.List.Elements.{All-push, All-take}
 use Rattle.gh_base.specs.declared.atom.Lit.{Lit}
 use Rattle.gh_base.specs.Atoms.{IsInRange}
 use Rattle.gh_cc.specs.declared.partition.Link.{Link}
-use Rattle.gh_cc.specs.declared.signs.SignEntry.{SignEntry}
+use Rattle.gh_cc.specs.declared.signatures.SignatureEntry.{SignatureEntry}
 use Rattle.gh_cc.specs.declared.clash.Clash.{Clash}
 use Rattle.gh_cc.specs.declared.classes.Stage.{Stage}
 use Rattle.gh_cc.specs.declared.classes.ClashAt.{ClashAt}
 use Rattle.gh_cc.specs.Partitions.{Merged}
-use Rattle.gh_cc.specs.Signs.{Filed}
+use Rattle.gh_cc.specs.Signatures.{Filed}
 use Rattle.gh_cc.specs.Asserted.{IsUnasserted}
 use Rattle.gh_cc.specs.Kept.{reps, IsClash, IsState, AllFiled, AreTied, LinksMore, Core, stage_at, first_clash}
 use Rattle.gh_cc.specs.Kept.{clash_before, IsStage, IsBefore, IsKept}
@@ -39,7 +39,7 @@ take_links c = take_all (length c.links) c.links (omega arith)
 take_entries : (c : Core) → take (length c.entries) c.entries ≡ c.entries
 take_entries c = take_all (length c.entries) c.entries (omega arith)
 
--- what `take_in` is handed
+-- what `file_last` is handed
 pub tied_now : (c : Core) → IsKept c → IsState c.sizes c.lits c.links c.entries
 tied_now c h = let s = (state_now c h).state in rw (take_lits c, take_links c, take_entries c) at s
 
@@ -61,12 +61,12 @@ more_core c x p f found = record {
   clash = first_clash c.clash (length c.lits) found;
 }
 
--- what `take_in` says
+-- what `file_last` says
 pub record TakenIn (c : Core) (x : Lit) (p : Merged) (f : Filed) (found : Option Clash) : Type 0 where
   pub tied : AreTied c.sizes (c.lits ++ x ∷ []) p f
   pub added_links : List Link
   pub links : p.links ≡ c.links ++ added_links
-  pub added_entries : List SignEntry
+  pub added_entries : List SignatureEntry
   pub entries : f.entries ≡ c.entries ++ added_entries
   pub filed : found ≡ None → c.clash ≡ None → AllFiled c.sizes (c.lits ++ x ∷ []) p.links f.entries
   pub clash : (k : Clash) → found ≡ Some k → IsClash (reps p.links) (c.lits ++ x ∷ []) k
@@ -291,7 +291,8 @@ front_is lits all x place whole is =
 
 pub taken_in : (c : Core) (x : Lit) (all : List Lit) (place : ℕ) (old p : Merged) (f : Filed) (found : Option Clash)
     (clashed : Bool) → all ≡ c.lits ++ x ∷ [] → place ≡ length c.lits → clashed ≡ is_some c.clash → IsKept c
-    → AreTied c.sizes all p f → LinksMore (record { terms = old.terms; links = c.links }) p → (added : List SignEntry)
+    → AreTied c.sizes all p f → LinksMore (record { terms = old.terms; links = c.links }) p
+    → (added : List SignatureEntry)
     → f.entries ≡ c.entries ++ added
     → IfNone found (clashed ≡ false → AllFiled c.sizes (take place all) c.links c.entries
     → AllFiled c.sizes all p.links f.entries)
@@ -313,7 +314,7 @@ taken_in c x all place old p f found clashed whole is flag h tied links added en
           (IfSome_at (λ j. IsClash (reps p.links) all j) found k clash at);
     }
 
-pub kept_along : (c : Core) (lits : List Lit) (stages : List Stage) (links : List Link) (entries : List SignEntry)
+pub kept_along : (c : Core) (lits : List Lit) (stages : List Stage) (links : List Link) (entries : List SignatureEntry)
     (clash : Option ClashAt) → IsKept c
     → lits ≡ c.lits → stages ≡ c.stages → links ≡ c.links → entries ≡ c.entries → clash ≡ c.clash
     → IsKept (record { sizes = c.sizes; lits = lits; stages = stages; links = links; entries = entries; clash = clash })

@@ -9,13 +9,13 @@ use Rattle.gh_base.specs.declared.sizes.Sizes.{Sizes}
 use Rattle.gh_base.specs.Atoms.{number_of}
 use Rattle.gh_base.specs.Meaning.{Interpretation, IsCongruence, atom_truth, under}
 use Rattle.gh_cc.specs.declared.partition.Link.{Link}
-use Rattle.gh_cc.specs.declared.signs.SignEntry.{SignEntry}
-use Rattle.gh_cc.specs.Signs.{find_lit}
+use Rattle.gh_cc.specs.declared.signatures.SignatureEntry.{SignatureEntry}
+use Rattle.gh_cc.specs.Signatures.{find_lit}
 use Rattle.gh_cc.specs.Asserted.{IsConsistent}
 use Rattle.gh_cc.specs.Kept.{at, normal, reps, HasSign, IsFiledAs, AllFiled}
 use Rattle.gh_cc.proofs.TakingLemmas.{no_lit}
 
--- representatives as classes, and signs by normal forms
+-- representatives as classes, and signatures by normal forms
 abbrev pub model_of : (ℕ → ℕ) → (Atom → Bool) → Interpretation
 model_of r sign = record { class = r; table = λ a. sign (normal r a) }
 
@@ -28,7 +28,7 @@ model_congruence s r sign = record {
   alloc = λ v x p _ _ e. let n : Alloc v (at r x) ≡ Alloc v (at r p) = λ i. Alloc v (record { 0 = e i }) in ap sign n;
 }
 
--- what a literal asks of representatives and signs
+-- what a literal asks of representatives and signatures
 abbrev pub Agrees : (ℕ → ℕ) → (Atom → Bool) → Atom → Bool → Type 0
 Agrees r sign (Eq a b) true = r a.0 ≡ r b.0
 Agrees r sign (Eq a b) false = r a.0 ≢ r b.0
@@ -64,16 +64,16 @@ abbrev sign_of : List Lit → Option ℕ → Bool
 sign_of lits None = false
 sign_of lits (Some k) = (get_or lits k no_lit).positive
 
-abbrev pub signs_in : Sizes → List Lit → List SignEntry → Atom → Bool
+abbrev pub signs_in : Sizes → List Lit → List SignatureEntry → Atom → Bool
 signs_in s lits entries a = sign_of lits (find_lit entries (number_of s a))
 
-pub sign_found : (s : Sizes) (lits : List Lit) (entries : List SignEntry) (a : Atom) (p : Bool)
+pub sign_found : (s : Sizes) (lits : List Lit) (entries : List SignatureEntry) (a : Atom) (p : Bool)
     → HasSign lits entries (number_of s a) p → signs_in s lits entries a ≡ p
 sign_found s lits entries a p h =
     ap (sign_of lits) h.found ∙ ap (λ (l : Lit). l.positive) (get_or_from_slice_get lits h.place h.lit no_lit h.there)
     ∙ h.signed
 
-filed_agrees : (s : Sizes) (r : ℕ → ℕ) (lits : List Lit) (entries : List SignEntry) (a : Atom) (p : Bool)
+filed_agrees : (s : Sizes) (r : ℕ → ℕ) (lits : List Lit) (entries : List SignatureEntry) (a : Atom) (p : Bool)
     → IsFiledAs s r lits entries a p → Agrees r (signs_in s lits entries) a p
 filed_agrees s r lits entries (Eq a b) true h = h
 filed_agrees s r lits entries (Eq a b) false h = h
@@ -82,7 +82,7 @@ filed_agrees s r lits entries (Hop v x y) p h = sign_found s lits entries (norma
 filed_agrees s r lits entries (Alloc v x) p h = sign_found s lits entries (normal r (Alloc v x)) p h
 filed_agrees s r lits entries (Def k) p h = sign_found s lits entries (Def k) p h
 
-pub filed_consistent : (s : Sizes) (lits : List Lit) (links : List Link) (entries : List SignEntry)
+pub filed_consistent : (s : Sizes) (lits : List Lit) (links : List Link) (entries : List SignatureEntry)
     → AllFiled s lits links entries → IsConsistent s lits
 filed_consistent s lits links entries all =
     consistent s lits (reps links) (signs_in s lits entries)

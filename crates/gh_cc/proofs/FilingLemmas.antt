@@ -15,16 +15,16 @@ use Rattle.gh_base.specs.declared.sizes.Sizes.{Sizes}
 use Rattle.gh_base.specs.Atoms.{IsInRange, number_of}
 use Rattle.gh_base.proofs.NumberLemmas.{apart}
 use Rattle.gh_cc.specs.declared.partition.Link.{Link}
-use Rattle.gh_cc.specs.declared.signs.SignEntry.{SignEntry}
+use Rattle.gh_cc.specs.declared.signatures.SignatureEntry.{SignatureEntry}
 use Rattle.gh_cc.specs.Partitions.{Merged, AreMerges}
-use Rattle.gh_cc.specs.Signs.{Filed, find_lit}
+use Rattle.gh_cc.specs.Signatures.{Filed, find_lit}
 use Rattle.gh_cc.specs.Kept.{at, normal, reps, IsRelation, IsEntry, HasSign, IsFiledAs, IsFiled, IsClash, AreTied}
 use Rattle.gh_cc.specs.Kept.{Grows}
 use Rattle.gh_cc.specs.declared.clash.Clash.TheVariants.{Opposite}
 use Rattle.gh_cc.specs.declared.clash.Clash.{Clash}
 use Rattle.gh_base.proofs.ListLemmas.{get_some}
 use Rattle.gh_cc.proofs.PartitionLemmas.{rep_range, rep_own, slice_get-contains}
-use Rattle.gh_cc.proofs.SignLemmas.{find_sound}
+use Rattle.gh_cc.proofs.SignatureLemmas.{find_sound}
 
 pub reps_range : (n : ℕ) (links : List Link) (t : ℕ) → AreMerges n links → t < n → reps links t < n
 reps_range n links t m h = rep_range n links (length links) t m (omega arith) h
@@ -60,7 +60,8 @@ normal_relation r (Hop v x y) h = tt
 normal_relation r (Alloc v x) h = tt
 normal_relation r (Def k) h = tt
 
-pub filed_as : (s : Sizes) (r : ℕ → ℕ) (lits : List Lit) (entries : List SignEntry) (a : Atom) (sign : Bool) → IsRelation a
+pub filed_as : (s : Sizes) (r : ℕ → ℕ) (lits : List Lit) (entries : List SignatureEntry) (a : Atom) (sign : Bool)
+    → IsRelation a
     → HasSign lits entries (number_of s (normal r a)) sign → IsFiledAs s r lits entries a sign
 filed_as s r lits entries (Eq a b) sign h f = absurd h
 filed_as s r lits entries (Btwn v x y z) sign h f = f
@@ -68,14 +69,16 @@ filed_as s r lits entries (Hop v x y) sign h f = f
 filed_as s r lits entries (Alloc v x) sign h f = f
 filed_as s r lits entries (Def k) sign h f = f
 
-find_here : (x : SignEntry) (xs : List SignEntry) (n : ℕ) → eqb x.number n ≡ true → find_lit (x ∷ xs) n ≡ Some x.lit
+find_here : (x : SignatureEntry) (xs : List SignatureEntry) (n : ℕ) → eqb x.number n ≡ true
+    → find_lit (x ∷ xs) n ≡ Some x.lit
 find_here x xs n e = ap (λ (b : Bool). cond b (Some x.lit) (find_lit xs n)) e
 
-find_there : (x : SignEntry) (xs : List SignEntry) (n : ℕ) → eqb x.number n ≡ false → find_lit (x ∷ xs) n ≡ find_lit xs n
+find_there : (x : SignatureEntry) (xs : List SignatureEntry) (n : ℕ) → eqb x.number n ≡ false
+    → find_lit (x ∷ xs) n ≡ find_lit xs n
 find_there x xs n e = ap (λ (b : Bool). cond b (Some x.lit) (find_lit xs n)) e
 
 -- more entries find what was found
-pub find_front : (xs ys : List SignEntry) (n k : ℕ) → find_lit xs n ≡ Some k → find_lit (xs ++ ys) n ≡ Some k
+pub find_front : (xs ys : List SignatureEntry) (n k : ℕ) → find_lit xs n ≡ Some k → find_lit (xs ++ ys) n ≡ Some k
 find_front [] ys n k e = cc
 find_front (x ∷ xs) ys n k e =
     elim (eqb_tells x.number n) as (λ _. find_lit (x ∷ (xs ++ ys)) n ≡ Some k) [
@@ -85,7 +88,7 @@ find_front (x ∷ xs) ys n k e =
       | inr h ↦ find_there x (xs ++ ys) n h.0 ∙ find_front xs ys n k (sym (find_there x xs n h.0) ∙ e)
     ]
 
-pub find_push : (xs : List SignEntry) (y : SignEntry) → find_lit xs y.number ≡ None
+pub find_push : (xs : List SignatureEntry) (y : SignatureEntry) → find_lit xs y.number ≡ None
     → find_lit (xs ++ y ∷ []) y.number ≡ Some y.lit
 find_push [] y e = find_here y [] y.number (eq-eqb y.number y.number refl)
 find_push (x ∷ xs) y e =
@@ -94,7 +97,7 @@ find_push (x ∷ xs) y e =
       | inr h ↦ find_there x (xs ++ y ∷ []) y.number h.0 ∙ find_push xs y (sym (find_there x xs y.number h.0) ∙ e)
     ]
 
-pub sign_along : (lits lits' : List Lit) (entries entries' : List SignEntry) (n : ℕ) (sign : Bool)
+pub sign_along : (lits lits' : List Lit) (entries entries' : List SignatureEntry) (n : ℕ) (sign : Bool)
     → ((i : ℕ) (l : Lit) → slice_get lits i ≡ Some l → slice_get lits' i ≡ Some l)
     → ((m k : ℕ) → find_lit entries m ≡ Some k → find_lit entries' m ≡ Some k) → HasSign lits entries n sign
     → HasSign lits' entries' n sign
@@ -107,7 +110,7 @@ sign_along lits lits' entries entries' n sign stay find h = record {
 }
 
 -- what is filed stays filed
-pub filed_along : (s : Sizes) (r : ℕ → ℕ) (lits lits' : List Lit) (entries entries' : List SignEntry) (a : Atom)
+pub filed_along : (s : Sizes) (r : ℕ → ℕ) (lits lits' : List Lit) (entries entries' : List SignatureEntry) (a : Atom)
     (sign : Bool) → ((i : ℕ) (l : Lit) → slice_get lits i ≡ Some l → slice_get lits' i ≡ Some l)
     → ((m k : ℕ) → find_lit entries m ≡ Some k → find_lit entries' m ≡ Some k) → IsFiledAs s r lits entries a sign
     → IsFiledAs s r lits' entries' a sign
@@ -124,7 +127,8 @@ filed_along s r lits lits' entries entries' (Def k) sign stay find h =
 
 pub grows_find : (old new : Filed) → Grows old new → (m k : ℕ) → find_lit old.entries m ≡ Some k
     → find_lit new.entries m ≡ Some k
-grows_find old new g m k e = ap (λ (es : List SignEntry). find_lit es m) g.more ∙ find_front old.entries g.added m k e
+grows_find old new g m k e =
+    ap (λ (es : List SignatureEntry). find_lit es m) g.more ∙ find_front old.entries g.added m k e
 
 pub grows_filed : (s : Sizes) (lits : List Lit) (links : List Link) (old new : Filed) → Grows old new → (l : Lit)
     → IsFiled s lits links old.entries l → IsFiled s lits links new.entries l
@@ -137,12 +141,12 @@ grows_none f = record { added = []; more = sym (append-nil f.entries); count = r
 pub grows_on : (a b c : Filed) → Grows a b → Grows b c → Grows a c
 grows_on a b c g h = record {
   added = g.added ++ h.added;
-  more = h.more ∙ ap (λ (es : List SignEntry). es ++ h.added) g.more ∙ append_assoc a.entries g.added h.added;
+  more = h.more ∙ ap (λ (es : List SignatureEntry). es ++ h.added) g.more ∙ append_assoc a.entries g.added h.added;
   count = h.count ∙ g.count;
 }
 
 -- the entry of a key
-pub entry_of : (s : Sizes) (links : List Link) (lits : List Lit) (entries : List SignEntry) (n k : ℕ)
+pub entry_of : (s : Sizes) (links : List Link) (lits : List Lit) (entries : List SignatureEntry) (n k : ℕ)
     → All (IsEntry s (reps links) lits) entries → find_lit entries n ≡ Some k
     → IsEntry s (reps links) lits (record { number = n; lit = k })
 entry_of s links lits entries n k all found =
@@ -200,7 +204,7 @@ put_files s lits p old new n place x t there relation is none now =
     let merges : AreMerges s.terms p.links = subst (λ n. AreMerges n p.links) t.terms t.merges in
     let inside : IsInRange s x.atom = All-contains (λ (k : Lit). IsInRange s k.atom) lits x t.in_range
     (slice_get-contains lits place x there) in
-    let e : SignEntry = record { number = n; lit = place } in
+    let e : SignatureEntry = record { number = n; lit = place } in
     let entries : new.entries ≡ old.entries ++ e ∷ [] = ap (λ (f : Filed). f.entries) now in
     let count : new.count ≡ old.count = ap (λ (f : Filed). f.count) now in
     let entry : IsEntry s (reps p.links) lits e = record {
@@ -213,7 +217,7 @@ put_files s lits p old new n place x t there relation is none now =
       same = normal_twice p.links x.atom;
     } in
     let found : find_lit new.entries (number_of s (normal (reps p.links) x.atom)) ≡ Some place =
-    ap (λ (m : ℕ). find_lit new.entries m) (sym is) ∙ ap (λ (es : List SignEntry). find_lit es n) entries
+    ap (λ (m : ℕ). find_lit new.entries m) (sym is) ∙ ap (λ (es : List SignatureEntry). find_lit es n) entries
     ∙ find_push old.entries e none in
     record {
       tied = record {
@@ -225,7 +229,7 @@ put_files s lits p old new n place x t there relation is none now =
         state = record {
           linked = t.state.linked;
           joined = t.state.joined;
-          named = subst (λ (es : List SignEntry). All (IsEntry s (reps p.links) lits) es) (sym entries)
+          named = subst (λ (es : List SignatureEntry). All (IsEntry s (reps p.links) lits) es) (sym entries)
               (All-push (IsEntry s (reps p.links) lits) old.entries e t.state.named entry);
         };
       };

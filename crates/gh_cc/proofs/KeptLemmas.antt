@@ -16,7 +16,7 @@ use Rattle.gh_base.specs.declared.sizes.Sizes.{Sizes}
 use Rattle.gh_base.specs.Atoms.{AreInRange, count_of, number_of}
 use Rattle.gh_base.proofs.NumberLemmas.{apart as atoms_apart, number_below}
 use Rattle.gh_cc.specs.declared.partition.Link.{Link}
-use Rattle.gh_cc.specs.declared.signs.SignEntry.{SignEntry}
+use Rattle.gh_cc.specs.declared.signatures.SignatureEntry.{SignatureEntry}
 use Rattle.gh_cc.specs.declared.clash.Clash.{Clash}
 use Rattle.gh_cc.specs.declared.clash.Clash.TheVariants.{Unequal, Opposite}
 use Rattle.gh_cc.specs.declared.classes.Stage.{Stage}
@@ -54,7 +54,7 @@ get_or_front_of (suc m) (x ∷ xs) d e zero h l = refl
 get_or_front_of (suc m) (x ∷ xs) d e (suc k) h l = get_or_front_of m xs d e k (omega arith) (omega arith)
 
 -- a stage rests on the first literals, links and entries alone
-pub stage_keeps : (c : Core) (lits : List Lit) (stages : List Stage) (links : List Link) (entries : List SignEntry)
+pub stage_keeps : (c : Core) (lits : List Lit) (stages : List Stage) (links : List Link) (entries : List SignatureEntry)
     (clash : Option ClashAt) (k : ℕ) (t : Stage)
     → take k lits ≡ take k c.lits → take t.depth links ≡ take t.depth c.links
     → take t.entries entries ≡ take t.entries c.entries → t.depth ≤ length links → t.entries ≤ length entries

@@ -1,6 +1,6 @@
 pub mod PartitionLemmas
 pub mod ExplainLemmas
-pub mod SignLemmas
+pub mod SignatureLemmas
 pub mod FilingLemmas
 pub mod TakingLemmas
 pub mod KeptLemmas
@@ -10,7 +10,6 @@ pub mod RefuteLemmas
 pub mod ConsistentLemmas
 pub mod KeyLemmas
 pub mod LemmaLemmas
-pub mod TruthLemmas
 pub mod UseLemmas
 pub mod CountLemmas
 pub mod MoveLemmas

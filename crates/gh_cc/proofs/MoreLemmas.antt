@@ -26,7 +26,8 @@ pub may_assert : (i : Inside) (x : Lit) (a : Asserted) → record { sizes = i.si
     → IsKept (core_of i) → IsInRange a.sizes x.atom → IsUnasserted a.lits x.atom → MayAssert (core_of i) x
 may_assert i x a is kept in_range free =
     let inside : IsInRange i.sizes x.atom = subst (λ (b : Asserted). IsInRange b.sizes x.atom) (sym is) in_range in
-    let open_here : IsUnasserted i.lits.items x.atom = subst (λ (b : Asserted). IsUnasserted b.lits x.atom) (sym is) free in
+    let open_here : IsUnasserted i.lits.items x.atom =
+    subst (λ (b : Asserted). IsUnasserted b.lits x.atom) (sym is) free in
     let all : AreInRange i.sizes (i.lits.items ++ x ∷ []) =
     All-push (λ (l : Lit). IsInRange i.sizes l.atom) i.lits.items x kept.in_range inside in
     record {

@@ -10,9 +10,9 @@ use Rattle.gh_base.specs.declared.atom.Atom.TheVariants.{Eq, Btwn, Hop, Alloc, D
 use Rattle.gh_base.specs.declared.sizes.Sizes.{Sizes}
 use Rattle.gh_base.specs.Atoms.{IsInRange, AreInRange, number_of}
 use Rattle.gh_cc.specs.declared.partition.Link.{Link}
-use Rattle.gh_cc.specs.declared.signs.SignEntry.{SignEntry}
+use Rattle.gh_cc.specs.declared.signatures.SignatureEntry.{SignatureEntry}
 use Rattle.gh_cc.specs.Partitions.{rep, no_link}
-use Rattle.gh_cc.specs.Signs.{Filed, find_lit}
+use Rattle.gh_cc.specs.Signatures.{Filed, find_lit}
 use Rattle.gh_cc.specs.Asserted.{equality}
 use Rattle.gh_cc.specs.Kept.{normal, reps, HasSign, IsFiledAs, IsFiled, AllFiled, Grows}
 use Rattle.gh_base.proofs.ListLemmas.{get_last, get_take, take_get}
@@ -122,7 +122,8 @@ some_mention P Q tell a =
     ]
 
 -- where the representatives of an atom's terms stay, what is filed stays filed
-pub unmoved_filed : (s : Sizes) (r more : ℕ → ℕ) (lits lits' : List Lit) (entries entries' : List SignEntry) (a : Atom)
+pub unmoved_filed : (s : Sizes) (r more : ℕ → ℕ) (lits lits' : List Lit) (entries entries' : List SignatureEntry)
+    (a : Atom)
     (sign : Bool) → ((t : Term) → Mentions a t → more t.0 ≡ r t.0)
     → ((i : ℕ) (l : Lit) → slice_get lits i ≡ Some l → slice_get lits' i ≡ Some l)
     → ((m k : ℕ) → find_lit entries m ≡ Some k → find_lit entries' m ≡ Some k)

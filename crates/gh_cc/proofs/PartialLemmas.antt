@@ -2,22 +2,20 @@
 use Rattle.std.proofs.Common.{◌≡◌, ◌≢◌, ◌⊎◌, inl, inr, ℕ, suc, ◌<◌, Bool, true, false, not, List, [], ◌∷◌, All, get_or}
 use Rattle.std.proofs.Common.{refl, sym, ap, ◌∙◌, subst, arith}
 use Rattle.std.specs.Prelude.{Contains, nat_eq}
-use Rattle.std.proofs.lemmas.Bool.{eq-eqb, ne_eqb, eqb-true, cases_eq}
-use Rattle.std.proofs.lemmas.List.Elements.{All-contains, All-cons, Contains-get_or}
+use Rattle.std.proofs.lemmas.Bool.{eq-eqb, ne_eqb, eqb-true}
+use Rattle.std.proofs.lemmas.List.Elements.{All-contains, Contains-get_or}
 use Rattle.gh_base.specs.declared.atom.Term.{Term}
 use Rattle.gh_base.specs.declared.atom.Atom.{Atom}
 use Rattle.gh_base.specs.declared.atom.Atom.TheVariants.{Eq, Btwn, Hop, Alloc, Def}
 use Rattle.gh_base.specs.declared.atom.Lit.{Lit}
 use Rattle.gh_base.specs.declared.sizes.Sizes.{Sizes}
 use Rattle.gh_base.specs.Atoms.{opposite, IsInRange, AreInRange, number_of}
-use Rattle.gh_base.specs.Meaning.{Interpretation, IsCongruence, IsLitTrue, IsClauseTrue, atom_truth, lit_truth, under}
-use Rattle.gh_base.proofs.NumberLemmas.{apart}
-use Rattle.gh_base.proofs.UnitLemmas.{true_or_false}
-use Rattle.gh_cc.specs.Asserted.{EqualitiesHold, IsUnasserted, IsConsistent, equality}
+use Rattle.gh_base.specs.Meaning.{Interpretation, IsCongruence, IsLitTrue, atom_truth, lit_truth, under}
+use Rattle.gh_cc.specs.Asserted.{EqualitiesHold, IsConsistent, equality}
 use Rattle.gh_cc.specs.Kept.{at, normal, IsRelation}
 use Rattle.gh_cc.proofs.RefuteLemmas.{btwn_parts, hop_parts}
 use Rattle.gh_cc.specs.Partials.{IsGiven, IsStructureOf}
-use Rattle.gh_cc.specs.Laws.{AreCongruences, AreAssertedTrue, AreAssignedTrue, AreAlike, AreLeastEnough}
+use Rattle.gh_cc.specs.Laws.{AreCongruences, AreAssertedTrue, AreAlike, AreLeastEnough}
 
 pub two_values : (b : Bool) → (b ≡ true) ⊎ (b ≡ false)
 two_values true = inl refl
@@ -162,46 +160,6 @@ module _ (s : Sizes) (lits : List Lit) (m : Interpretation) (st : IsStructureOf 
 pub are_asserted_true : AreAssertedTrue
 are_asserted_true s lits m st range known k d lt = let l : Lit = get_or lits k d in
     lit_true s lits m st range known l.atom l.positive (Contains-get_or lits k d lt)
-
--- an atom stands asserted, or it is free
-found_or_free : (s : Sizes) (lits : List Lit) (a : Atom) → AreInRange s lits → IsInRange s a
-    → ((l : Lit) × Contains lits l × (l.atom ≡ a)) ⊎ IsUnasserted lits a
-found_or_free s [] a range h = inr (λ k d lt. absurd (omega arith))
-found_or_free s (l ∷ ls) a range h =
-    elim (cases_eq (number_of s l.atom) (number_of s a)) as (λ _. ((x : Lit) × Contains (l ∷ ls) x × (x.atom ≡ a))
-    ⊎ IsUnasserted (l ∷ ls) a) [
-      | inl same ↦ inl (l, (0, omega arith, refl), apart s l.atom a (range 0 l (omega arith)) h same)
-      | inr differ ↦
-          elim (found_or_free s ls a (λ k d lt. range (suc k) d (omega arith)) h) as (λ _.
-          ((x : Lit) × Contains (l ∷ ls) x × (x.atom ≡ a)) ⊎ IsUnasserted (l ∷ ls) a) [
-            | inl w ↦ inl (w.0, (let lt = w.1.1 in (suc w.1.0, omega arith, w.1.2)), w.2)
-            | inr free ↦ inr (All-cons (λ (x : Lit). x.atom ≢ a) l ls (λ e. differ (ap (number_of s) e)) free)
-          ]
-    ]
-
-other_sign : (lits : List Lit) (a : Atom) (p q : Bool) → Contains lits (record { atom = a; positive = p })
-    → (Contains lits (record { atom = a; positive = q }) → ⊥) → Contains lits (record { atom = a; positive = not q })
-other_sign lits a true true there no_ = absurd (no_ there)
-other_sign lits a true false there no_ = there
-other_sign lits a false true there no_ = there
-other_sign lits a false false there no_ = absurd (no_ there)
-
-pub are_assigned_true : AreAssignedTrue
-are_assigned_true s lits m clause st range known inside assigned open_ =
-    elim (true_or_false m clause) as (λ _. IsClauseTrue m clause) [
-      | inl t ↦ t
-      | inr none ↦ absurd (open_ (λ k d lt.
-          let l : Lit = get_or clause k d in
-          elim (found_or_free s lits l.atom range (inside k d lt)) as (λ _. Contains lits (opposite l)) [
-            | inl w ↦
-                let there : Contains lits (record { atom = l.atom; positive = w.0.positive }) =
-                subst (λ (x : Atom). Contains lits (record { atom = x; positive = w.0.positive })) w.2 w.1 in
-                other_sign lits l.atom w.0.positive l.positive there
-                (λ stands_too. not_both (lit_truth m l) (lit_true s lits m st range known l.atom l.positive stands_too)
-                (none k d lt))
-            | inr free ↦ absurd (assigned k d lt free)
-          ]))
-    ]
 
 -- all structures have the same classes, and so the same atoms are given
 module _ (s : Sizes) (lits : List Lit) (m n : Interpretation) (st : IsStructureOf s lits m)

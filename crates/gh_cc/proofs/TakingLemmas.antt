@@ -13,9 +13,9 @@ use Rattle.gh_base.specs.declared.sizes.Sizes.{Sizes}
 use Rattle.gh_base.specs.Atoms.{IsInRange, AreInRange, term}
 use Rattle.gh_cc.specs.declared.moving.IndexedLits.{IndexedLits}
 use Rattle.gh_cc.specs.declared.partition.Link.{Link}
-use Rattle.gh_cc.specs.declared.signs.SignEntry.{SignEntry}
+use Rattle.gh_cc.specs.declared.signatures.SignatureEntry.{SignatureEntry}
 use Rattle.gh_cc.specs.Partitions.{Merged, rep, relabel, equality_of}
-use Rattle.gh_cc.specs.Signs.{Filed}
+use Rattle.gh_cc.specs.Signatures.{Filed}
 use Rattle.gh_cc.specs.Uses.{AreEnds, JoinsLighter}
 use Rattle.gh_cc.specs.Asserted.{equality}
 use Rattle.gh_cc.specs.Kept.{normal, reps, IsEntry, IsFiled, AllFiled, AreTied, Grows, LinksMore}
@@ -23,7 +23,7 @@ use Rattle.gh_base.proofs.ListLemmas.{get_front, get_last}
 use Rattle.gh_cc.proofs.PartitionLemmas.{rep_own, rep_more, rep_joins, relabel_same, merges_more}
 use Rattle.gh_cc.proofs.FilingLemmas.{normal_coarser, filed_along, grows_find}
 
-pub entry_front : (s : Sizes) (r : ℕ → ℕ) (lits more : List Lit) (e : SignEntry) → IsEntry s r lits e
+pub entry_front : (s : Sizes) (r : ℕ → ℕ) (lits more : List Lit) (e : SignatureEntry) → IsEntry s r lits e
     → IsEntry s r (lits ++ more) e
 entry_front s r lits more e h = record {
   lit = h.lit;
@@ -128,7 +128,8 @@ tied_merge s lits p f k a b t inside ends apart =
     let below = ends_range k a b s.terms ends (omega (arith, inside.0, inside.1)) inside.1 in
     let l = equality a b in
     let now = p.links ++ k ∷ [] in
-    let turn : (e : SignEntry) → IsEntry s (reps p.links) lits e → IsEntry s (reps now) (lits ++ l ∷ []) e = λ e h. record {
+    let turn : (e : SignatureEntry) → IsEntry s (reps p.links) lits e → IsEntry s (reps now) (lits ++ l ∷ []) e =
+    λ e h. record {
       lit = h.lit;
       atom = h.atom;
       there = get_front lits (l ∷ []) e.lit h.lit h.there;

@@ -1,12 +1,12 @@
 -- Asserted literals, and what they say by equality and congruence alone.
-use Rattle.std.specs.Prelude.{◌≡◌, ◌≢◌, Bool, List, All, Contains, true}
+use Rattle.std.specs.Prelude.{◌≡◌, ◌≢◌, List, All, Contains, true}
 use Rattle.gh_base.specs.declared.atom.Term.{Term}
 use Rattle.gh_base.specs.declared.atom.Atom.{Atom}
 use Rattle.gh_base.specs.declared.atom.Atom.TheVariants.{Eq}
 use Rattle.gh_base.specs.declared.atom.Lit.{Lit}
 use Rattle.gh_base.specs.declared.sizes.Sizes.{Sizes}
 use Rattle.gh_base.specs.Atoms.{opposite}
-use Rattle.gh_base.specs.Meaning.{Interpretation, atom_truth, IsLitTrue, IsCongruence, IsEqualityClause}
+use Rattle.gh_base.specs.Meaning.{Interpretation, IsLitTrue, IsCongruence, IsEqualityClause}
 
 -- what callers see of `Classes`: the literals that stand asserted, in order
 pub record Asserted : Type 0 where
@@ -28,18 +28,9 @@ EqualitiesHold m lits = (a b : Term) → Contains lits (equality a b) → m.clas
 abbrev pub AreEqual : Asserted → Term → Term → Type 0
 AreEqual s a b = (m : Interpretation) → IsCongruence s.sizes m → EqualitiesHold m s.lits → m.class a.0 ≡ m.class b.0
 
--- wherever equality is a congruence and what is asserted is true, the atom has this truth
-abbrev pub HasTruth : Asserted → Atom → Bool → Type 0
-HasTruth s atom truth = (m : Interpretation) → IsCongruence s.sizes m → All (IsLitTrue m) s.lits
-    → atom_truth m atom ≡ truth
-
 -- somewhere equality is a congruence and what is asserted is true
 abbrev pub IsConsistent : Sizes → List Lit → Type 0
 IsConsistent sizes lits = (m : Interpretation) × IsCongruence sizes m × All (IsLitTrue m) lits
-
--- where what is asserted is consistent, equality and congruence give the atom no truth
-abbrev pub HasNoTruth : Asserted → Atom → Type 0
-HasNoTruth s atom = IsConsistent s.sizes s.lits → (truth : Bool) → HasTruth s atom truth → ⊥
 
 -- a clause that follows from equality and congruence alone, whose literals are negations of asserted ones
 pub record IsConflict (s : Asserted) (clause : List Lit) : Type 0 where

@@ -12,7 +12,7 @@ core_of c = record {
   lits = c.lits.items;
   stages = c.stages.items;
   links = c.partition.links;
-  entries = c.signs.entries;
+  entries = c.signatures.entries;
   clash = c.clash;
 }
 
@@ -20,7 +20,7 @@ core_of c = record {
 abbrev pub HaveSizes : Inside → Type 0
 HaveSizes c =
     (c.partition.terms ≡ c.sizes.terms)
-    × (c.signs.count ≡ count_of c.sizes)
+    × (c.signatures.count ≡ count_of c.sizes)
     × (c.uses.terms ≡ c.sizes.terms)
 
 -- the most atoms of which classes are kept: 32 bits number three mentions of each

@@ -9,14 +9,14 @@ use Rattle.gh_base.specs.declared.sizes.Sizes.{Sizes}
 use Rattle.gh_base.specs.Meaning.{Interpretation, IsCongruence, atom_truth, lit_truth}
 use Rattle.gh_base.specs.Atoms.{IsInRange, AreInRange, number_of, count_of}
 use Rattle.gh_cc.specs.declared.partition.Link.{Link}
-use Rattle.gh_cc.specs.declared.signs.SignEntry.{SignEntry}
+use Rattle.gh_cc.specs.declared.signatures.SignatureEntry.{SignatureEntry}
 use Rattle.gh_cc.specs.declared.moving.IndexedLits.{IndexedLits}
 use Rattle.gh_cc.specs.declared.clash.Clash.{Clash}
 use Rattle.gh_cc.specs.declared.clash.Clash.TheVariants.{Unequal, Opposite}
 use Rattle.gh_cc.specs.declared.classes.Stage.{Stage}
 use Rattle.gh_cc.specs.declared.classes.ClashAt.{ClashAt}
 use Rattle.gh_cc.specs.Partitions.{Merged, rep, equality_of, disequality_of, AreMerges}
-use Rattle.gh_cc.specs.Signs.{Filed, find_lit}
+use Rattle.gh_cc.specs.Signatures.{Filed, find_lit}
 use Rattle.gh_cc.specs.Uses.{Mentions, IsMoved}
 use Rattle.gh_cc.specs.Asserted.{equality}
 
@@ -44,7 +44,7 @@ abbrev pub reps : List Link → ℕ → ℕ
 reps links = rep links (length links)
 
 -- an entry is of an atom that differs from its literal's by equal terms at most
-pub record IsEntry (s : Sizes) (r : ℕ → ℕ) (lits : List Lit) (e : SignEntry) : Type 0 where
+pub record IsEntry (s : Sizes) (r : ℕ → ℕ) (lits : List Lit) (e : SignatureEntry) : Type 0 where
   pub lit : Lit
   pub atom : Atom
   pub there : slice_get lits e.lit ≡ Some lit
@@ -54,7 +54,7 @@ pub record IsEntry (s : Sizes) (r : ℕ → ℕ) (lits : List Lit) (e : SignEntr
   pub same : normal r atom ≡ normal r lit.atom
 
 -- the entry of an atom's number is of a literal of this sign
-pub record HasSign (lits : List Lit) (entries : List SignEntry) (number : ℕ) (sign : Bool) : Type 0 where
+pub record HasSign (lits : List Lit) (entries : List SignatureEntry) (number : ℕ) (sign : Bool) : Type 0 where
   pub place : ℕ
   pub lit : Lit
   pub found : find_lit entries number ≡ Some place
@@ -62,7 +62,7 @@ pub record HasSign (lits : List Lit) (entries : List SignEntry) (number : ℕ) (
   pub signed : lit.positive ≡ sign
 
 -- the tables agree with a literal
-abbrev pub IsFiledAs : Sizes → (ℕ → ℕ) → List Lit → List SignEntry → Atom → Bool → Type 0
+abbrev pub IsFiledAs : Sizes → (ℕ → ℕ) → List Lit → List SignatureEntry → Atom → Bool → Type 0
 IsFiledAs s r lits entries (Eq a b) true = r a.0 ≡ r b.0
 IsFiledAs s r lits entries (Eq a b) false = r a.0 ≢ r b.0
 IsFiledAs s r lits entries (Btwn v x y z) sign = HasSign lits entries (number_of s (normal r (Btwn v x y z))) sign
@@ -70,24 +70,24 @@ IsFiledAs s r lits entries (Hop v x y) sign = HasSign lits entries (number_of s 
 IsFiledAs s r lits entries (Alloc v x) sign = HasSign lits entries (number_of s (normal r (Alloc v x))) sign
 IsFiledAs s r lits entries (Def number) sign = HasSign lits entries (number_of s (Def number)) sign
 
-abbrev pub IsFiled : Sizes → List Lit → List Link → List SignEntry → Lit → Type 0
+abbrev pub IsFiled : Sizes → List Lit → List Link → List SignatureEntry → Lit → Type 0
 IsFiled s lits links entries l = IsFiledAs s (reps links) lits entries l.atom l.positive
 
 -- the tables agree with each literal
-abbrev pub AllFiled : Sizes → List Lit → List Link → List SignEntry → Type 0
+abbrev pub AllFiled : Sizes → List Lit → List Link → List SignatureEntry → Type 0
 AllFiled s lits links entries = All (IsFiled s lits links entries) lits
 
 -- they agree with the literal at a place
-abbrev pub IsFiledAt : Sizes → List Lit → List Link → List SignEntry → ℕ → Type 0
+abbrev pub IsFiledAt : Sizes → List Lit → List Link → List SignatureEntry → ℕ → Type 0
 IsFiledAt s lits links entries place = (l : Lit) → slice_get lits place ≡ Some l → IsFiled s lits links entries l
 
 -- .. with each literal that mentions a term
-abbrev pub AreFiledOf : IndexedLits → List Link → List SignEntry → Term → Type 0
+abbrev pub AreFiledOf : IndexedLits → List Link → List SignatureEntry → Term → Type 0
 AreFiledOf a links entries t =
     (i : ℕ) (l : Lit) → slice_get a.lits.now i ≡ Some l → Mentions l.atom t → IsFiled a.sizes a.lits.now links entries l
 
 -- .. with each that mentions a term which the last link moved
-abbrev pub AreFiledMoved : IndexedLits → List Link → List SignEntry → Type 0
+abbrev pub AreFiledMoved : IndexedLits → List Link → List SignatureEntry → Type 0
 AreFiledMoved a links entries = (i : ℕ) (l : Lit) (t : Term) → slice_get a.lits.now i ≡ Some l → Mentions l.atom t
     → t.0 < a.sizes.terms
     → IsMoved links t → IsFiled a.sizes a.lits.now links entries l
@@ -117,7 +117,7 @@ IsClash r lits (Opposite first second) =
     × (normal r l.atom ≡ normal r k.atom) × (l.positive ≢ k.positive)
 
 -- links and entries rest on the literals, and the links join the terms of each equality
-pub record IsState (s : Sizes) (lits : List Lit) (links : List Link) (entries : List SignEntry) : Type 0 where
+pub record IsState (s : Sizes) (lits : List Lit) (links : List Link) (entries : List SignatureEntry) : Type 0 where
   pub linked : (l : Link) → Contains links l → Contains lits (equality_of l)
   pub joined : (a b : Term) → Contains lits (equality a b) → reps links a.0 ≡ reps links b.0
   pub named : All (IsEntry s (reps links) lits) entries
@@ -139,7 +139,7 @@ pub record AreTied (s : Sizes) (lits : List Lit) (p : Merged) (f : Filed) : Type
 
 -- entries were added
 pub record Grows (old new : Filed) : Type 0 where
-  pub added : List SignEntry
+  pub added : List SignatureEntry
   pub more : new.entries ≡ old.entries ++ added
   pub count : new.count ≡ old.count
 
@@ -155,7 +155,7 @@ pub record Core : Type 0 where
   pub lits : List Lit
   pub stages : List Stage
   pub links : List Link
-  pub entries : List SignEntry
+  pub entries : List SignatureEntry
   pub clash : Option ClashAt
 
 -- the clash that stands after a literal at this place was taken in

@@ -1,11 +1,11 @@
 -- Laws of the structure of asserted literals.
-use Rattle.std.specs.Prelude.{ℕ, ◌<◌, ◌≡◌, List, All, Contains}
+use Rattle.std.specs.Prelude.{ℕ, ◌<◌, ◌≡◌, List, All}
 use Rattle.gh_base.specs.declared.atom.Atom.{Atom}
 use Rattle.gh_base.specs.declared.atom.Lit.{Lit}
 use Rattle.gh_base.specs.declared.sizes.Sizes.{Sizes}
-use Rattle.gh_base.specs.Atoms.{opposite, IsInRange, AreInRange}
-use Rattle.gh_base.specs.Meaning.{Interpretation, IsLitTrue, IsClauseTrue, IsCongruence, atom_truth}
-use Rattle.gh_cc.specs.Asserted.{IsUnasserted, IsConsistent}
+use Rattle.gh_base.specs.Atoms.{IsInRange, AreInRange}
+use Rattle.gh_base.specs.Meaning.{Interpretation, IsLitTrue, IsCongruence, atom_truth}
+use Rattle.gh_cc.specs.Asserted.{IsConsistent}
 use Rattle.gh_cc.specs.Kept.{normal, IsRelation}
 use Rattle.gh_cc.specs.Partials.{IsStructureOf}
 
@@ -17,15 +17,6 @@ AreCongruences = (s : Sizes) (lits : List Lit) (m : Interpretation) → IsStruct
 abbrev pub AreAssertedTrue : Type 0
 AreAssertedTrue = (s : Sizes) (lits : List Lit) (m : Interpretation) → IsStructureOf s lits m → AreInRange s lits
     → IsConsistent s lits → All (IsLitTrue m) lits
-
--- where what is asserted is consistent, a clause each of whose atoms is asserted or negated is true, unless the
--- opposite of each of its literals is asserted
-abbrev pub AreAssignedTrue : Type 0
-AreAssignedTrue =
-    (s : Sizes) (lits : List Lit) (m : Interpretation) (clause : List Lit) → IsStructureOf s lits m → AreInRange s lits
-    → IsConsistent s lits
-    → AreInRange s clause → All (λ l. IsUnasserted lits l.atom → ⊥) clause
-    → (All (λ l. Contains lits (opposite l)) clause → ⊥) → IsClauseTrue m clause
 
 -- all structures of the same literals give each atom one truth
 abbrev pub AreAlike : Type 0

@@ -1,5 +1,5 @@
 pub mod Partitions
-pub mod Signs
+pub mod Signatures
 pub mod Asserted
 pub mod Kept
 pub mod Lemma

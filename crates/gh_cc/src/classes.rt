@@ -1,19 +1,19 @@
-//! Asserted literals, with the classes of terms and the truth of atoms that they give.
+//! Asserted literals, with the classes of terms that they make.
 
 ghost use Rattle.std.specs.Prelude.{◌≡◌, ◌<◌, ◌≤◌, ◌∷◌, ◌++◌, ◌↔◌, [], IfOk, IfSome, IfNone, IsTrue, length, take};
-ghost use Rattle.gh_cc.specs.Kept.{first_clash, clash_before, IsRelation};
+ghost use Rattle.gh_cc.specs.Kept.{first_clash, clash_before};
 ghost use Rattle.gh_base.specs.Atoms.{IsInRange, count_of};
 ghost use Rattle.gh_cc.specs.Fields.{most_filed};
-ghost use Rattle.gh_cc.specs.Asserted.{IsUnasserted, AreEqual, HasTruth, HasNoTruth, IsConsistent, IsConflict};
+ghost use Rattle.gh_cc.specs.Asserted.{IsUnasserted, AreEqual, IsConsistent, IsConflict};
 
 use crate::clash::Clash;
-use crate::filing::{key, take_in};
+use crate::filing::file_last;
 use crate::moving::{IndexedLits, mention};
 use crate::partition::Partition;
 use crate::refuting::refutation;
-use crate::signs::Signs;
+use crate::signatures::SignatureTable;
 use crate::uses::Uses;
-use gh_base::atom::{Atom, Lit, Term};
+use gh_base::atom::{Lit, Term};
 use gh_base::clause::Clause;
 use gh_base::sizes::Sizes;
 use std::alloc::{AllocError, Global};
@@ -40,7 +40,7 @@ pub struct Classes {
     lits: Vec<Lit>,
     stages: Vec<Stage>,
     partition: Partition,
-    signs: Signs,
+    signatures: SignatureTable,
     uses: Uses,
     clash: Option<ClashAt>,
 }
@@ -112,7 +112,7 @@ impl Classes {
             lits: Vec::with_capacity(alloc, count)?,
             stages: Vec::with_capacity(alloc, count)?,
             partition: Partition::new(alloc, terms)?,
-            signs: Signs::new(alloc, count)?,
+            signatures: SignatureTable::new(alloc, count)?,
             uses: Uses::new(alloc, terms, 3 * count)?,
             clash: None,
         })
@@ -128,7 +128,7 @@ impl Classes {
         let place = self.lits.len() as u32;
         self.stages.push_reserved(Stage {
             depth: self.partition.depth() as u8,
-            entries: self.signs.len() as u32,
+            entries: self.signatures.len() as u32,
         });
         self.lits.push_reserved(lit);
         mention(self.sizes, &mut self.uses, lit.atom);
@@ -138,10 +138,10 @@ impl Classes {
             uses: &self.uses,
         };
         let clashed = self.clash.is_some();
-        let found = take_in(
+        let found = file_last(
             &indexed,
             &mut self.partition,
-            &mut self.signs,
+            &mut self.signatures,
             place,
             clashed,
         );
@@ -157,7 +157,7 @@ impl Classes {
         if left < self.lits.len() {
             let stage = self.stages[left];
             self.partition.cut(stage.depth as usize);
-            self.signs.cut(stage.entries as usize);
+            self.signatures.cut(stage.entries as usize);
             self.uses.cut(3 * left);
             self.lits.truncate(left);
             self.stages.truncate(left);
@@ -170,19 +170,6 @@ impl Classes {
         ensures { IsTrue result ↔ AreEqual self.now a b }
     {
         self.partition.class_of(a).0 == self.partition.class_of(b).0
-    }
-
-    /// The truth that equality and congruence give an atom other than an equality: that of an asserted one over terms
-    /// of the same classes. None where they give it none; where the asserted literals are inconsistent, None says
-    /// nothing. `same` tells of equalities. It takes constant time.
-    pub fn truth_of(&self, atom: Atom) -> Option<bool>
-        requires in_range { IsInRange self.now.sizes atom }
-        requires relation { IsRelation atom }
-        ensures truth { IfSome result (HasTruth self.now atom) }
-        ensures none { IfNone result (HasNoTruth self.now atom) }
-    {
-        let place = self.signs.get(key(self.sizes, &self.partition, atom))?;
-        Some(self.lits[place as usize].positive)
     }
 
     /// The literals that stand asserted, in order.

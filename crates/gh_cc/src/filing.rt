@@ -11,7 +11,7 @@ ghost use Rattle.gh_cc.specs.Kept.{IsFiledAt, FilesLits};
 use crate::clash::Clash;
 use crate::moving::{IndexedLits, merge_lighter, refile_moved};
 use crate::partition::Partition;
-use crate::signs::Signs;
+use crate::signatures::SignatureTable;
 use gh_base::atom::{Atom, Lit, Term};
 use gh_base::sizes::Sizes;
 
@@ -63,14 +63,14 @@ pub(crate) fn file(
     sizes: Sizes,
     lits: &[Lit],
     partition: &Partition,
-    signs: &mut Signs,
+    signatures: &mut SignatureTable,
     place: u32,
 ) -> Option<Clash>
-    requires tied { AreTied sizes lits.now partition.now signs.old }
+    requires tied { AreTied sizes lits.now partition.now signatures.old }
     requires place { place < length lits.now }
-    ensures tied { AreTied sizes lits.now partition.now signs.new }
-    ensures grows { Grows signs.old signs.new }
-    ensures filed { IfNone result (IsFiledAt sizes lits.now partition.now.links signs.new.entries place) }
+    ensures tied { AreTied sizes lits.now partition.now signatures.new }
+    ensures grows { Grows signatures.old signatures.new }
+    ensures filed { IfNone result (IsFiledAt sizes lits.now partition.now.links signatures.new.entries place) }
     ensures clash { IfSome result (λ c. IsClash (reps partition.now.links) lits.now c) }
 {
     let lit = lits[place as usize];
@@ -81,9 +81,9 @@ pub(crate) fn file(
         return None;
     }
     let number = key(sizes, partition, lit.atom);
-    match signs.get(number) {
+    match signatures.get(number) {
         None => {
-            signs.put(number, place);
+            signatures.put(number, place);
             None
         }
         Some(first) => clash_of(lits, first, place),
@@ -102,23 +102,23 @@ pub(crate) fn equal_terms(lit: Lit) -> Option<(Term, Term)>
 }
 
 // Takes in the last literal, and finds the clash that it brings. Once there is a clash, only classes are kept.
-pub(crate) fn take_in(
+pub(crate) fn file_last(
     indexed: &IndexedLits,
     partition: &mut Partition,
-    signs: &mut Signs,
+    signatures: &mut SignatureTable,
     place: u32,
     clashed: bool,
 ) -> Option<Clash>
-    requires tied { AreTied indexed.now.sizes (take place indexed.now.lits.now) partition.old signs.old }
+    requires tied { AreTied indexed.now.sizes (take place indexed.now.lits.now) partition.old signatures.old }
     requires last { length indexed.now.lits.now ≡ place + 1 }
     requires in_range { AreInRange indexed.now.sizes indexed.now.lits.now }
     requires uses { indexed.now.uses.now.list ≡ all_mentions indexed.now.lits.now }
     requires mentioned { indexed.now.uses.now.terms ≡ indexed.now.sizes.terms }
-    ensures tied { AreTied indexed.now.sizes indexed.now.lits.now partition.new signs.new }
+    ensures tied { AreTied indexed.now.sizes indexed.now.lits.now partition.new signatures.new }
     ensures links { LinksMore partition.old partition.new }
-    ensures grows { Grows signs.old signs.new }
+    ensures grows { Grows signatures.old signatures.new }
     ensures filed { IfNone result (
-        FilesLits clashed indexed.now place partition.old partition.new signs.old signs.new) }
+        FilesLits clashed indexed.now place partition.old partition.new signatures.old signatures.new) }
     ensures clash { IfSome result (λ c. IsClash (reps partition.new.links) indexed.now.lits.now c) }
 {
     let lit = indexed.lits[place as usize];
@@ -131,13 +131,13 @@ pub(crate) fn take_in(
             if clashed {
                 return None;
             }
-            refile_moved(indexed, partition, signs)
+            refile_moved(indexed, partition, signatures)
         }
         None => {
             if clashed {
                 return None;
             }
-            file(indexed.sizes, indexed.lits, partition, signs, place)
+            file(indexed.sizes, indexed.lits, partition, signatures, place)
         }
     }
 }

@@ -1,6 +1,6 @@
 //! Laws of the structure of asserted literals.
 
-ghost use Rattle.gh_cc.specs.Laws.{AreCongruences, AreAssertedTrue, AreAssignedTrue, AreAlike, AreLeastEnough};
+ghost use Rattle.gh_cc.specs.Laws.{AreCongruences, AreAssertedTrue, AreAlike, AreLeastEnough};
 
 /// Equality is a congruence in the structure of asserted literals.
 pub fn are_congruences()
@@ -10,12 +10,6 @@ pub fn are_congruences()
 /// Where what is asserted is consistent, it is true in its structure.
 pub fn are_asserted_true()
     ensures { AreAssertedTrue }
-{}
-
-/// Where what is asserted is consistent, a clause each of whose atoms is asserted or negated is true in the structure,
-/// unless the opposite of each of its literals is asserted.
-pub fn are_assigned_true()
-    ensures { AreAssignedTrue }
 {}
 
 /// All structures of the same literals give each atom one truth.

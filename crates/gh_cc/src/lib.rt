@@ -10,5 +10,5 @@ pub mod lemma;
 mod moving;
 mod partition;
 mod refuting;
-mod signs;
+mod signatures;
 mod uses;

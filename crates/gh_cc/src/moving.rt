@@ -9,7 +9,7 @@ ghost use Rattle.gh_cc.specs.Uses.{all_mentions, class_times, JoinsLighter, term
 use crate::clash::Clash;
 use crate::filing::file;
 use crate::partition::Partition;
-use crate::signs::Signs;
+use crate::signatures::SignatureTable;
 use crate::uses::Uses;
 use gh_base::atom::{Atom, Lit, Term};
 use gh_base::sizes::Sizes;
@@ -88,21 +88,27 @@ pub(crate) fn merge_lighter(sizes: Sizes, partition: &mut Partition, uses: &Uses
 fn refile_term(
     indexed: &IndexedLits,
     partition: &Partition,
-    signs: &mut Signs,
+    signatures: &mut SignatureTable,
     term: Term,
 ) -> Option<Clash>
-    requires tied { AreTied indexed.now.sizes indexed.now.lits.now partition.now signs.old }
+    requires tied { AreTied indexed.now.sizes indexed.now.lits.now partition.now signatures.old }
     requires uses { indexed.now.uses.now.list ≡ all_mentions indexed.now.lits.now }
     requires term { term.0 < indexed.now.uses.now.terms }
-    ensures tied { AreTied indexed.now.sizes indexed.now.lits.now partition.now signs.new }
-    ensures grows { Grows signs.old signs.new }
-    ensures filed { IfNone result (AreFiledOf indexed.now partition.now.links signs.new.entries term) }
+    ensures tied { AreTied indexed.now.sizes indexed.now.lits.now partition.now signatures.new }
+    ensures grows { Grows signatures.old signatures.new }
+    ensures filed { IfNone result (AreFiledOf indexed.now partition.now.links signatures.new.entries term) }
     ensures clash { IfSome result (λ c. IsClash (reps partition.now.links) indexed.now.lits.now c) }
 {
     let mut next = indexed.uses.last(term);
     while next > 0 {
         let place = next - 1;
-        if let Some(clash) = file(indexed.sizes, indexed.lits, partition, signs, place / 3) {
+        if let Some(clash) = file(
+            indexed.sizes,
+            indexed.lits,
+            partition,
+            signatures,
+            place / 3,
+        ) {
             return Some(clash);
         }
         next = indexed.uses.before(place, term);
@@ -114,20 +120,20 @@ fn refile_term(
 pub(crate) fn refile_moved(
     indexed: &IndexedLits,
     partition: &Partition,
-    signs: &mut Signs,
+    signatures: &mut SignatureTable,
 ) -> Option<Clash>
-    requires tied { AreTied indexed.now.sizes indexed.now.lits.now partition.now signs.old }
+    requires tied { AreTied indexed.now.sizes indexed.now.lits.now partition.now signatures.old }
     requires uses { indexed.now.uses.now.list ≡ all_mentions indexed.now.lits.now }
     requires terms { indexed.now.uses.now.terms ≡ indexed.now.sizes.terms }
     requires merged { 0 < length partition.now.links }
-    ensures tied { AreTied indexed.now.sizes indexed.now.lits.now partition.now signs.new }
-    ensures grows { Grows signs.old signs.new }
-    ensures filed { IfNone result (AreFiledMoved indexed.now partition.now.links signs.new.entries) }
+    ensures tied { AreTied indexed.now.sizes indexed.now.lits.now partition.now signatures.new }
+    ensures grows { Grows signatures.old signatures.new }
+    ensures filed { IfNone result (AreFiledMoved indexed.now partition.now.links signatures.new.entries) }
     ensures clash { IfSome result (λ c. IsClash (reps partition.now.links) indexed.now.lits.now c) }
 {
     for t in 0..indexed.sizes.terms {
         if partition.is_moved(Term(t)) {
-            if let Some(clash) = refile_term(indexed, partition, signs, Term(t)) {
+            if let Some(clash) = refile_term(indexed, partition, signatures, Term(t)) {
                 return Some(clash);
             }
         }

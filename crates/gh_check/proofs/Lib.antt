@@ -3,7 +3,7 @@ pub mod KeptLemmas
 pub mod TruthLemmas
 pub mod LineLemmas
 pub mod UnitsLemmas
-pub mod StandingLemmas
+pub mod RootUnitsLemmas
 pub mod SectionLemmas
 pub mod PositionLemmas
 pub mod RestLemmas

@@ -41,4 +41,4 @@ pub record HasClauses (sizes : Sizes) (clauses : List (List Lit)) (s : SearchSta
 -- the search, if there is one, has the clauses of the first `taken` positions
 pub record IsBehind (sizes : Sizes) (entries : List (Option (List Lit))) (u : Units) : Type 0 where
   pub within : u.taken ≤ length entries
-  pub search : MatchOption u.learner (u.taken ≡ 0) (λ s. HasClauses sizes (present (take u.taken entries)) s)
+  pub search : MatchOption u.search (u.taken ≡ 0) (λ s. HasClauses sizes (present (take u.taken entries)) s)

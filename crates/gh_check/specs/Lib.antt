@@ -3,6 +3,6 @@ pub mod Assuming
 pub mod Kept
 pub mod Clauses
 pub mod Truths
-pub mod Standing
+pub mod RootUnits
 pub mod Lines
 pub mod Answers

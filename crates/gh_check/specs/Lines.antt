@@ -6,7 +6,7 @@ use Rattle.gh_log.specs.Sections.{IsOfKind, IsFaultOf, line_clause}
 use Rattle.gh_base.specs.declared.sizes.Sizes.{Sizes}
 use Rattle.gh_check.specs.Kept.{Kept, next_line, with_line, AreLinesKept, IsWithin, AreWithin}
 use Rattle.gh_check.specs.Assuming.{IsBehind}
-use Rattle.gh_check.specs.Standing.{IsStandingOf}
+use Rattle.gh_check.specs.RootUnits.{AreRootUnitsOf}
 use Rattle.gh_check.specs.Names.{fault_number}
 use Rattle.gh_check.specs.declared.lines.Earlier.{Earlier}
 use Rattle.gh_check.specs.declared.lines.Outcome.{Outcome}
@@ -42,7 +42,7 @@ Leaves p old line o new = (earlier : List LogLine) → AreLinesKept p earlier ol
 -- what is kept fits clauses over these numbers
 pub record FitsSizes (sizes : Sizes) (e : Earlier) : Type 0 where
   pub within : AreWithin sizes e.kept.clauses
-  pub standing : IsStandingOf sizes e.kept.clauses e.standing
+  pub root_units : AreRootUnitsOf sizes e.kept.clauses e.root_units
   pub behind : IsBehind sizes e.kept.clauses e.units
   pub truths : e.truths.sizes ≡ sizes
 

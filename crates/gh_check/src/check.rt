@@ -8,7 +8,7 @@ ghost use Rattle.gh_check.specs.Lines.{FitsSizes, StaysReady};
 
 use crate::fault::{CheckError, FaultKind, LogFault};
 use crate::hints::Truths;
-use crate::lines::{Earlier, Outcome, checked};
+use crate::lines::{Earlier, Outcome, check_line};
 use crate::positions::Positions;
 use crate::units::Units;
 use gh_base::ground::Ground;
@@ -29,7 +29,7 @@ fn nothing_before<'s>(
     let truths = Truths::new(alloc, ground.sizes())?;
     Ok(Earlier {
         kept,
-        standing: None,
+        root_units: None,
         units: Units::new(),
         truths,
     })
@@ -60,7 +60,7 @@ fn check_lines(
     let lines = &section.lines;
     let mut line = section.first;
     for place in 0..lines.len() {
-        match checked(alloc, ground, before, lines.line(place))? {
+        match check_line(alloc, ground, before, lines.line(place))? {
             Outcome::Holds => keep(before),
             Outcome::Faulty(kind) => return Err(CheckError::Fault(LogFault::new(kind, line))),
         }

@@ -133,7 +133,7 @@ impl Truths {
     }
 
     // Takes hints in order. Answers whether the clause of one of them comes to be false.
-    fn follow(&mut self, kept: &Positions<'_>, hints: &[u32]) -> Result<bool, AllocError>
+    fn walk_hints(&mut self, kept: &Positions<'_>, hints: &[u32]) -> Result<bool, AllocError>
         requires { AreWithin self.old.sizes kept.now.clauses }
         ensures exact { IfOk result (λ b. IsTrue b ↔ IsRefutedByHints (named kept.now hints.now) self.old.lits) }
         ensures sizes { OnOk result (self.new.sizes ≡ self.old.sizes) }
@@ -164,7 +164,7 @@ impl Truths {
         if self.falsify(lits)? {
             return Ok(true);
         }
-        Ok(self.follow(kept, hints)?)
+        Ok(self.walk_hints(kept, hints)?)
     }
 }
 

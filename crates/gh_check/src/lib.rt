@@ -9,6 +9,6 @@ mod hints;
 pub mod laws;
 mod lines;
 mod positions;
+mod root_units;
 mod search;
-mod standing;
 mod units;

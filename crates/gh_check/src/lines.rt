@@ -11,12 +11,12 @@ ghost use Rattle.gh_base.specs.Propagation.{FollowsByUnits};
 ghost use Rattle.gh_check.specs.Kept.{AreWithin, present};
 ghost use Rattle.gh_check.specs.Lines.{IsChecked, Answers, Leaves, FitsSizes, AnswersOver};
 ghost use Rattle.gh_check.specs.Assuming.{IsBehind};
-ghost use Rattle.gh_check.specs.Standing.{IsStandingOf};
+ghost use Rattle.gh_check.specs.RootUnits.{AreRootUnitsOf};
 
 use crate::fault::FaultKind;
 use crate::hints::Truths;
 use crate::positions::Positions;
-use crate::standing::{Standing, judged};
+use crate::root_units::{RootUnits, judgement};
 use crate::units::Units;
 use gh_base::atom::Lit;
 use gh_base::clause::Clause;
@@ -38,7 +38,7 @@ pub enum Outcome {
 #[derive(Drop)]
 pub struct Earlier<'s> {
     pub kept: Positions<'s>,
-    pub standing: Option<Standing>,
+    pub root_units: Option<RootUnits>,
     pub units: Units,
     pub truths: Truths,
 }
@@ -51,7 +51,7 @@ pub fn are_in_range(sizes: Sizes, lits: &[Lit]) -> bool
 }
 
 // Checks the name of an instance.
-fn checked_axiom(alloc: Global, ground: &Ground, name: InstanceName) -> Outcome
+fn check_axiom(alloc: Global, ground: &Ground, name: InstanceName) -> Outcome
     ensures { (earlier : List Line) → IsChecked ground.now earlier (line_kind.Axiom name) result }
 {
     match instance(alloc, name, ground.terms(), ground.versions()) {
@@ -61,7 +61,7 @@ fn checked_axiom(alloc: Global, ground: &Ground, name: InstanceName) -> Outcome
 }
 
 // Checks the number of a ground clause.
-fn checked_clause(ground: &Ground, number: u32) -> Outcome
+fn check_clause(ground: &Ground, number: u32) -> Outcome
     ensures { (earlier : List Line) → IsChecked ground.now earlier (line_kind.Clause number) result }
 {
     match ground.clause(number) {
@@ -80,7 +80,7 @@ fn follows_alone(alloc: Global, sizes: Sizes, lits: &[Lit]) -> Result<bool, Allo
 }
 
 // Checks that a clause follows from equality and congruence alone.
-fn checked_lemma(alloc: Global, ground: &Ground, lits: &[Lit]) -> Result<Outcome, AllocError>
+fn check_lemma(alloc: Global, ground: &Ground, lits: &[Lit]) -> Result<Outcome, AllocError>
     ensures { IfOk result (λ o. (earlier : List Line) → IsChecked ground.now earlier (line_kind.Lemma lits.now) o) }
 {
     if !follows_alone(alloc, ground.sizes(), lits)? {
@@ -94,19 +94,19 @@ fn is_implied(
     alloc: Global,
     sizes: Sizes,
     kept: &Positions<'_>,
-    standing: &mut Option<Standing>,
+    root_units: &mut Option<RootUnits>,
     units: &mut Units,
     lits: &[Lit],
 ) -> Result<bool, AllocError>
-    requires standing { IsStandingOf sizes kept.now.clauses standing.old }
+    requires root_units { AreRootUnitsOf sizes kept.now.clauses root_units.old }
     requires behind { IsBehind sizes kept.now.clauses units.old }
     requires range { AreInRange sizes lits.now }
     requires within { AreWithin sizes kept.now.clauses }
     ensures exact { IfOk result (λ b. IsTrue b ↔ FollowsByUnits (present kept.now.clauses) lits.now) }
-    ensures standing { OnOk result (IsStandingOf sizes kept.now.clauses standing.new) }
+    ensures root_units { OnOk result (AreRootUnitsOf sizes kept.now.clauses root_units.new) }
     ensures behind { OnOk result (IsBehind sizes kept.now.clauses units.new) }
 {
-    match judged(alloc, standing, sizes, kept, lits)? {
+    match judgement(alloc, root_units, sizes, kept, lits)? {
         Some(implied) => Ok(implied),
         None => {
             let implied = units.are_implied(alloc, sizes, kept, lits)?;
@@ -116,32 +116,32 @@ fn is_implied(
 }
 
 // Checks that the atoms of a clause are in range and unit propagation shows it from all lines before.
-fn checked_learnt(
+fn check_learnt(
     alloc: Global,
     sizes: Sizes,
     kept: &Positions<'_>,
-    standing: &mut Option<Standing>,
+    root_units: &mut Option<RootUnits>,
     units: &mut Units,
     lits: &[Lit],
 ) -> Result<Outcome, AllocError>
-    requires standing { IsStandingOf sizes kept.now.clauses standing.old }
+    requires root_units { AreRootUnitsOf sizes kept.now.clauses root_units.old }
     requires behind { IsBehind sizes kept.now.clauses units.old }
     requires within { AreWithin sizes kept.now.clauses }
     ensures checked { IfOk result (AnswersOver sizes kept.now (line_kind.Learnt lits.now)) }
-    ensures standing { OnOk result (IsStandingOf sizes kept.now.clauses standing.new) }
+    ensures root_units { OnOk result (AreRootUnitsOf sizes kept.now.clauses root_units.new) }
     ensures behind { OnOk result (IsBehind sizes kept.now.clauses units.new) }
 {
     if !are_in_range(sizes, lits) {
         return Ok(Outcome::Faulty(FaultKind::NotImplied));
     }
-    if !is_implied(alloc, sizes, kept, standing, units, lits)? {
+    if !is_implied(alloc, sizes, kept, root_units, units, lits)? {
         return Ok(Outcome::Faulty(FaultKind::NotImplied));
     }
     Ok(Outcome::Holds)
 }
 
 // Checks that the atoms of a clause are in range, and that its hints all stand and show it.
-fn checked_hinted(
+fn check_hinted(
     ground: &Ground,
     kept: &Positions<'_>,
     truths: &mut Truths,
@@ -166,7 +166,7 @@ fn checked_hinted(
 }
 
 // Checks that positions stand and are distinct, and deletes them.
-fn checked_deletion(kept: &mut Positions<'_>, positions: &[u32]) -> Outcome
+fn check_deletion(kept: &mut Positions<'_>, positions: &[u32]) -> Outcome
     ensures problem { kept.new.problem ≡ kept.old.problem }
     ensures lines { kept.new.lines ≡ kept.old.lines }
     ensures clauses { kept.new.clauses ≡ kept.old.clauses }
@@ -181,7 +181,7 @@ fn checked_deletion(kept: &mut Positions<'_>, positions: &[u32]) -> Outcome
 }
 
 /// Checks a line after those that are kept. Where the answer is `Holds`, the line is to be kept too.
-pub fn checked(
+pub fn check_line(
     alloc: Global,
     ground: &Ground,
     before: &mut Earlier<'_>,
@@ -195,16 +195,16 @@ pub fn checked(
     ensures ready { OnOk result (FitsSizes ground.now.sizes before.new) }
 {
     match line {
-        LogLine::Axiom(name) => Ok(checked_axiom(alloc, ground, name)),
-        LogLine::Clause { number } => Ok(checked_clause(ground, number)),
-        LogLine::Lemma(lits) => Ok(checked_lemma(alloc, ground, lits)?),
+        LogLine::Axiom(name) => Ok(check_axiom(alloc, ground, name)),
+        LogLine::Clause { number } => Ok(check_clause(ground, number)),
+        LogLine::Lemma(lits) => Ok(check_lemma(alloc, ground, lits)?),
         LogLine::Learnt(lits) => {
-            let (standing, units) = (&mut before.standing, &mut before.units);
-            Ok(checked_learnt(alloc, ground.sizes(), &before.kept, standing, units, lits)?)
+            let (root_units, units) = (&mut before.root_units, &mut before.units);
+            Ok(check_learnt(alloc, ground.sizes(), &before.kept, root_units, units, lits)?)
         }
         LogLine::Hinted { clause, hints } => {
-            Ok(checked_hinted(ground, &before.kept, &mut before.truths, clause, hints)?)
+            Ok(check_hinted(ground, &before.kept, &mut before.truths, clause, hints)?)
         }
-        LogLine::Delete { positions } => Ok(checked_deletion(&mut before.kept, positions)),
+        LogLine::Delete { positions } => Ok(check_deletion(&mut before.kept, positions)),
     }
 }

@@ -15,42 +15,42 @@ use crate::positions::Positions;
 use gh_base::atom::Lit;
 use gh_base::clause::Clause;
 use gh_base::sizes::Sizes;
-use gh_sat::learner::Learner;
+use gh_sat::clause_search::ClauseSearch;
 use std::alloc::{AllocError, Global};
 
 // Makes a literal false, and propagates. Answers whether that is a contradiction.
-fn refutes(learner: &mut Learner, lit: Lit) -> bool
-    requires settled { IsSettled learner.old }
-    requires sound { IsSound learner.old }
-    requires range { IsInRange learner.old.sizes lit.atom }
-    ensures sizes { learner.new.sizes ≡ learner.old.sizes }
-    ensures clauses { learner.new.clauses ≡ learner.old.clauses }
-    ensures refuting { IsTrue result → IsRefuting learner.old (opposite lit) }
-    ensures assumed { (IsTrue result → ⊥) → IsAssumed learner.old learner.new (opposite lit) }
+fn refutes(search: &mut ClauseSearch, lit: Lit) -> bool
+    requires settled { IsSettled search.old }
+    requires sound { IsSound search.old }
+    requires range { IsInRange search.old.sizes lit.atom }
+    ensures sizes { search.new.sizes ≡ search.old.sizes }
+    ensures clauses { search.new.clauses ≡ search.old.clauses }
+    ensures refuting { IsTrue result → IsRefuting search.old (opposite lit) }
+    ensures assumed { (IsTrue result → ⊥) → IsAssumed search.old search.new (opposite lit) }
 {
-    match learner.assignment().value(lit) {
+    match search.assignment().value(lit) {
         Some(true) => true,
         Some(false) => false,
         None => {
-            learner.assume(lit.negated());
-            learner.propagate().is_some()
+            search.assume(lit.negated());
+            search.propagate().is_some()
         }
     }
 }
 
 // Makes some literals false, one after the other, and propagates. Answers whether that is a contradiction.
-fn all_refute(learner: &mut Learner, lits: &[Lit]) -> bool
-    requires range { AreInRange learner.old.sizes lits.now }
-    requires level { learner.old.starts ≡ [] }
-    ensures sizes { learner.new.sizes ≡ learner.old.sizes }
-    ensures clauses { learner.new.clauses ≡ learner.old.clauses }
-    ensures exact { IsTrue result ↔ FollowsByUnits learner.old.clauses lits.now }
+fn all_refute(search: &mut ClauseSearch, lits: &[Lit]) -> bool
+    requires range { AreInRange search.old.sizes lits.now }
+    requires level { search.old.starts ≡ [] }
+    ensures sizes { search.new.sizes ≡ search.old.sizes }
+    ensures clauses { search.new.clauses ≡ search.old.clauses }
+    ensures exact { IsTrue result ↔ FollowsByUnits search.old.clauses lits.now }
 {
-    if learner.propagate().is_some() {
+    if search.propagate().is_some() {
         return true;
     }
     for lit in lits {
-        if refutes(learner, *lit) {
+        if refutes(search, *lit) {
             return true;
         }
     }
@@ -58,16 +58,16 @@ fn all_refute(learner: &mut Learner, lits: &[Lit]) -> bool
 }
 
 // Whether unit propagation shows the clause of these literals from those of the search, which is at level 0.
-fn is_implied(learner: &mut Learner, lits: &[Lit]) -> bool
-    requires range { AreInRange learner.old.sizes lits.now }
-    requires level { learner.old.starts ≡ [] }
-    ensures exact { IsTrue result ↔ FollowsByUnits learner.old.clauses lits.now }
-    ensures sizes { learner.new.sizes ≡ learner.old.sizes }
-    ensures clauses { learner.new.clauses ≡ learner.old.clauses }
-    ensures level { learner.new.starts ≡ [] }
+fn is_implied(search: &mut ClauseSearch, lits: &[Lit]) -> bool
+    requires range { AreInRange search.old.sizes lits.now }
+    requires level { search.old.starts ≡ [] }
+    ensures exact { IsTrue result ↔ FollowsByUnits search.old.clauses lits.now }
+    ensures sizes { search.new.sizes ≡ search.old.sizes }
+    ensures clauses { search.new.clauses ≡ search.old.clauses }
+    ensures level { search.new.starts ≡ [] }
 {
-    let implied = all_refute(learner, lits);
-    learner.backjump(0);
+    let implied = all_refute(search, lits);
+    search.backjump(0);
     implied
 }
 
@@ -75,58 +75,62 @@ fn is_implied(learner: &mut Learner, lits: &[Lit]) -> bool
 /// clauses of the first `taken` positions.
 #[derive(Drop)]
 pub struct Units {
-    learner: Option<Learner>,
+    search: Option<ClauseSearch>,
     taken: usize,
 }
 
-// A search that was begun, or one with no clause.
-fn begun(alloc: Global, sizes: Sizes, learner: Option<Learner>) -> Result<Learner, AllocError>
-    ensures { IfOk result (λ s. MatchOption learner (s ≡ no_clauses sizes) (λ old. s ≡ old)) }
+// A search that was made before, or one with no clause.
+fn existing_or_new(
+    alloc: Global,
+    sizes: Sizes,
+    old: Option<ClauseSearch>,
+) -> Result<ClauseSearch, AllocError>
+    ensures { IfOk result (λ s. MatchOption old (s ≡ no_clauses sizes) (λ made. s ≡ made)) }
 {
-    match learner {
-        Some(learner) => Ok(learner),
-        None => Ok(Learner::empty(alloc, sizes)?),
+    match old {
+        Some(search) => Ok(search),
+        None => Ok(ClauseSearch::empty(alloc, sizes)?),
     }
 }
 
 // Adds the clause of a position, if it has one.
 fn insert_at(
     alloc: Global,
-    learner: &mut Learner,
+    search: &mut ClauseSearch,
     kept: &Positions<'_>,
     position: usize,
 ) -> Result<(), AllocError>
-    requires level { learner.old.starts ≡ [] }
-    requires within { AreWithin learner.old.sizes kept.now.clauses }
-    ensures clauses { OnOk result (learner.new.clauses ≡ learner.old.clauses ++ present_at kept.now.clauses position) }
-    ensures sizes { OnOk result (learner.new.sizes ≡ learner.old.sizes) }
-    ensures level { OnOk result (learner.new.starts ≡ []) }
+    requires level { search.old.starts ≡ [] }
+    requires within { AreWithin search.old.sizes kept.now.clauses }
+    ensures clauses { OnOk result (search.new.clauses ≡ search.old.clauses ++ present_at kept.now.clauses position) }
+    ensures sizes { OnOk result (search.new.sizes ≡ search.old.sizes) }
+    ensures level { OnOk result (search.new.starts ≡ []) }
 {
     if !kept.has_clause(position) {
         return Ok(());
     }
     let clause = kept.clause(position);
-    learner.insert(Clause::from_lits(alloc, clause.lits())?)?;
+    search.insert(Clause::from_lits(alloc, clause.lits())?)?;
     Ok(())
 }
 
 // Adds the clauses of the positions from one on.
 fn insert_from(
     alloc: Global,
-    learner: &mut Learner,
+    search: &mut ClauseSearch,
     kept: &Positions<'_>,
     from: usize,
 ) -> Result<(), AllocError>
     requires short { from ≤ length kept.now.clauses }
-    requires taken { learner.old.clauses ≡ present (take from kept.now.clauses) }
-    requires level { learner.old.starts ≡ [] }
-    requires within { AreWithin learner.old.sizes kept.now.clauses }
-    ensures clauses { OnOk result (learner.new.clauses ≡ present kept.now.clauses) }
-    ensures sizes { OnOk result (learner.new.sizes ≡ learner.old.sizes) }
-    ensures level { OnOk result (learner.new.starts ≡ []) }
+    requires taken { search.old.clauses ≡ present (take from kept.now.clauses) }
+    requires level { search.old.starts ≡ [] }
+    requires within { AreWithin search.old.sizes kept.now.clauses }
+    ensures clauses { OnOk result (search.new.clauses ≡ present kept.now.clauses) }
+    ensures sizes { OnOk result (search.new.sizes ≡ search.old.sizes) }
+    ensures level { OnOk result (search.new.starts ≡ []) }
 {
     for position in from..kept.count() {
-        insert_at(alloc, learner, kept, position)?;
+        insert_at(alloc, search, kept, position)?;
     }
     Ok(())
 }
@@ -137,7 +141,7 @@ impl Units {
         ensures { (sizes : Sizes) (entries : List (Option (List Lit))) → IsBehind sizes entries result }
     {
         Units {
-            learner: None,
+            search: None,
             taken: 0,
         }
     }
@@ -156,11 +160,11 @@ impl Units {
         ensures exact { IfOk result (λ b. IsTrue b ↔ FollowsByUnits (present kept.now.clauses) lits.now) }
         ensures behind { OnOk result (IsBehind sizes kept.now.clauses self.new) }
     {
-        let mut learner = begun(alloc, sizes, self.learner.take())?;
-        insert_from(alloc, &mut learner, kept, self.taken)?;
-        let implied = is_implied(&mut learner, lits);
+        let mut search = existing_or_new(alloc, sizes, self.search.take())?;
+        insert_from(alloc, &mut search, kept, self.taken)?;
+        let implied = is_implied(&mut search, lits);
         self.taken = kept.count();
-        self.learner = Some(learner);
+        self.search = Some(search);
         Ok(implied)
     }
 }

@@ -11,7 +11,8 @@ use Rattle.gh_log.specs.Lines.{LogLine}
 use Rattle.gh_decide.specs.Logs.{AreValidSections, IsSectionOf, ValidLogsShowValidity}
 use Rattle.gh_decide.proofs.Parts.{section_shows}
 
-all_shown : (P : Program) (cs : List Condition) (ss : List (List LogLine)) (c : Condition) → IsTyped P → IsCondition P c → AreValidSections P cs ss → Contains cs c → IsConditionValid P c
+all_shown : (P : Program) (cs : List Condition) (ss : List (List LogLine)) (c : Condition) → IsTyped P → IsCondition P c
+    → AreValidSections P cs ss → Contains cs c → IsConditionValid P c
 all_shown P [] ss c typed is valid i = absurd (no_member c i)
 all_shown P (d ∷ ds) [] c typed is valid i = absurd valid
 all_shown P (d ∷ ds) (s ∷ ss) c typed is valid i = elim (member_cases d ds c i) [
@@ -20,4 +21,5 @@ all_shown P (d ∷ ds) (s ∷ ss) c typed is valid i = elim (member_cases d ds c
 ]
 
 pub valid_logs_show_validity : ValidLogsShowValidity
-valid_logs_show_validity P ss typed valid = λ c i. all_shown P (conditions P) ss c typed ((all_are_listed P c).0 i) valid i
+valid_logs_show_validity P ss typed valid =
+    λ c i. all_shown P (conditions P) ss c typed ((all_are_listed P c).0 i) valid i

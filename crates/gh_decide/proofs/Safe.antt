@@ -1,7 +1,7 @@
 -- Safe states and whole paths.
 use Rattle.std.specs.Prelude.{List, [], ◌∷◌, not}
 use Rattle.gh_ast.specs.Plain.{Procedure, Program}
-use Rattle.gh_path.specs.Graphs.{Check, PathStep, assume, Graph, dead_end, ends, moves, guarded, fork}
+use Rattle.gh_path.specs.Graphs.{Check, PathStep, assume_step, Graph, dead_end, ends, moves, guarded, fork}
 use Rattle.gh_path.specs.Paths.{Path, at_end, arrived, past, on, on_true, on_false}
 use Rattle.gh_trace.specs.Traces.{State, Passes, IsTrace, last_state}
 use Rattle.gh_decide.specs.Safe.{Safe, PathsPass}
@@ -10,14 +10,23 @@ use Rattle.gh_decide.specs.Laws.{SafeMeansPathsPass}
 pub from_paths : (P : Program) (proc : Procedure) (g : Graph) (x : State) → PathsPass P proc g x → Safe P proc g x
 from_paths P proc dead_end x all = tt
 from_paths P proc (ends c) x all = all [] c at_end [] tt
-from_paths P proc (guarded c s g) x all = (all [] c arrived [] tt, λ y takes. from_paths P proc g y (λ ss d path ys t. all (s ∷ ss) d (past path) (y ∷ ys) (takes, t)))
-from_paths P proc (moves s g) x all = λ y takes. from_paths P proc g y (λ ss d path ys t. all (s ∷ ss) d (on path) (y ∷ ys) (takes, t))
+from_paths P proc (guarded c s g) x all = (
+  all [] c arrived [] tt,
+  λ y takes. from_paths P proc g y
+      (λ ss d path ys t. all (s ∷ ss) d (past path) (y ∷ ys) (takes, t)),
+)
+from_paths P proc (moves s g) x all =
+    λ y takes. from_paths P proc g y (λ ss d path ys t. all (s ∷ ss) d (on path) (y ∷ ys) (takes, t))
 from_paths P proc (fork l e r g k) x all = (
-  λ y takes. from_paths P proc g y (λ ss d path ys t. all (assume l e r ∷ ss) d (on_true path) (y ∷ ys) (takes, t)),
-  λ y takes. from_paths P proc k y (λ ss d path ys t. all (assume l (not e) r ∷ ss) d (on_false path) (y ∷ ys) (takes, t)),
+  λ y takes. from_paths P proc g y
+      (λ ss d path ys t. all (assume_step l e r ∷ ss) d (on_true path) (y ∷ ys) (takes, t)),
+  λ y takes. from_paths P proc k y
+      (λ ss d path ys t. all (assume_step l (not e) r ∷ ss) d (on_false path) (y ∷ ys) (takes, t)),
 )
 
-pub to_paths : (P : Program) (proc : Procedure) (g : Graph) (x : State) → Safe P proc g x → (ss : List PathStep) (c : Check) → Path g ss c → (ys : List State) → IsTrace P proc x ss ys → Passes P proc c (last_state x ys)
+pub to_paths : (P : Program) (proc : Procedure) (g : Graph) (x : State) → Safe P proc g x
+    → (ss : List PathStep) (c : Check) → Path g ss c → (ys : List State) → IsTrace P proc x ss ys
+    → Passes P proc c (last_state x ys)
 to_paths P proc _ x safe _ _ at_end [] t = safe
 to_paths P proc _ x safe _ _ at_end (y ∷ ys) t = absurd t
 to_paths P proc _ x safe _ _ arrived [] t = safe.0

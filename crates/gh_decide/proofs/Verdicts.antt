@@ -4,11 +4,12 @@ use Rattle.gh_ast.specs.Plain.{Program}
 use Rattle.gh_path.specs.Kept.{condition_of}
 use Rattle.gh_path.specs.declared.condition.Condition as kept
 use Rattle.gh_trace.specs.Kept.{drawn_of, HasNoCounterexample}
-use Rattle.gh_trace.specs.Replay.{Drawn, Refutes}
+use Rattle.gh_trace.specs.Replay.{Drawn, IsDrawnCounterexample}
 use Rattle.gh_decide.specs.declared.decide.Verdict.TheVariants.{Valid, Refuted}
 use Rattle.gh_decide.specs.Verdicts.{VerdictsAreExact}
 
-not_both : (P : Program) (r : kept.Condition) (xs : List Drawn) → HasNoCounterexample P r → Refutes P (condition_of r) xs → ⊥
+not_both : (P : Program) (r : kept.Condition) (xs : List Drawn) → HasNoCounterexample P r
+    → IsDrawnCounterexample P (condition_of r) xs → ⊥
 not_both P r xs none against = none against.procedure against.of against.first.state _ against.counterexample
 
 pub verdicts_are_exact : VerdictsAreExact

@@ -4,8 +4,8 @@ use Rattle.gh_base.specs.declared.place.Span.{Span}
 use Rattle.gh_ast.specs.declared.Occ.{Occ}
 use Rattle.gh_ast.specs.declared.Operand.TheVariants.{Null}
 use Rattle.gh_ast.specs.declared.Expr.TheVariants.{Plain}
-use Rattle.gh_ast.specs.Plain.{Formula, empty, cell, write, free, Statements, no_statements, statement_first, Procedure}
-use Rattle.gh_ast.specs.Plain.{Program}
+use Rattle.gh_ast.specs.Plain.{Assertion, empty, cell, write, free, Statements, no_statements, statement_first}
+use Rattle.gh_ast.specs.Plain.{Procedure, Program}
 
 abbrev pub somewhere : Span
 somewhere = record { line = 1; col = 1 }
@@ -14,7 +14,7 @@ abbrev pub x : Occ
 x = record { name = 120 ∷ []; span = somewhere }
 
 -- `procedure f(x: Node) requires acc(x) ensures ..`
-abbrev pub with_cell : Formula → Statements → Procedure
+abbrev pub with_cell : Assertion → Statements → Procedure
 with_cell gives body =
     record {
       name = record { name = 102 ∷ []; span = somewhere };

@@ -1,6 +1,6 @@
 -- The laws.
 use Rattle.std.specs.Prelude.{◌≡◌, ◌↔◌, Bool, cond, Some}
-use Rattle.gh_ast.specs.Plain.{Test, Procedure, Program}
+use Rattle.gh_ast.specs.Plain.{Cond, Procedure, Program}
 use Rattle.gh_ast.specs.Rules.{IsTyped}
 use Rattle.gh_assert.specs.Values.{outcome}
 use Rattle.gh_machine.specs.Machine.{IsGood}
@@ -18,7 +18,8 @@ SafeMeansPathsPass = (P : Program) (proc : Procedure) (g : Graph) (x : State) �
 -- in a safe state a test has an outcome, and the way that it leads is safe
 abbrev pub TestsLead : Type 0
 TestsLead =
-    (P : Program) (proc : Procedure) (t : Test) (g k : Graph) (x : State) → Safe P proc (tested t g k) x → (way : Bool) × (outcome x.store x.heap t ≡ Some way) × Safe P proc (cond way g k) x
+    (P : Program) (proc : Procedure) (t : Cond) (g k : Graph) (x : State) → Safe P proc (tested t g k) x
+    → (way : Bool) × (outcome x.store x.heap t ≡ Some way) × Safe P proc (cond way g k) x
 
 -- a program that keeps the rules is good where each check of each path is passed
 abbrev pub Composition : Type 0

@@ -32,4 +32,5 @@ ValidLogsShowValidity = (P : Program) (log : List (List LogLine)) → IsTyped P 
 -- where a section is valid for a condition's clauses, these have no model
 abbrev pub ValidSectionsHaveNoModel : Type 0
 ValidSectionsHaveNoModel =
-    (P : Program) (proc : Procedure) (c : Condition) (lines : List LogLine) (m : Interpretation) → IsValidSection (problem (symbolic_of P proc c)) lines → IsModelOf P proc c m → ⊥
+    (P : Program) (proc : Procedure) (c : Condition) (lines : List LogLine) (m : Interpretation)
+    → IsValidSection (problem (symbolic_of P proc c)) lines → IsModelOf P proc c m → ⊥

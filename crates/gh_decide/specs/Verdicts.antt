@@ -7,7 +7,7 @@ use Rattle.gh_path.specs.declared.condition.Condition as kept
 use Rattle.gh_symb.specs.Symbolic.{symbolic_of}
 use Rattle.gh_symb.specs.Formulas.{problem}
 use Rattle.gh_trace.specs.Kept.{drawn_of, HasNoCounterexample}
-use Rattle.gh_trace.specs.Replay.{Refutes}
+use Rattle.gh_trace.specs.Replay.{IsDrawnCounterexample}
 use Rattle.gh_log.specs.declared.lines.Section.{Section}
 use Rattle.gh_log.specs.Spelled.{IsSpelledLine}
 use Rattle.gh_decide.specs.Logs.{IsSectionOf}
@@ -34,7 +34,7 @@ pub record IsShown (P : Program) (r : kept.Condition) (s : Section) : Type 0 whe
 -- the condition is valid, which the section shows; or the trace is a counterexample of it
 abbrev pub IsVerdict : Program → kept.Condition → Verdict → Type 0
 IsVerdict P r (Valid s) = IsShown P r s
-IsVerdict P r (Refuted t) = Refutes P (condition_of r) (drawn_of t)
+IsVerdict P r (Refuted t) = IsDrawnCounterexample P (condition_of r) (drawn_of t)
 
 abbrev pub IsValid : Verdict → Type 0
 IsValid (Valid s) = Unit {0}

@@ -10,7 +10,7 @@ use gh_trace::decider::Decider;
 use gh_trace::state::Trace;
 use std::alloc::{AllocError, Global};
 
-/// Decides each condition that it is asked for. It keeps how often it was asked, and what its last search found.
+/// Decides each condition that it is asked for. It keeps how often it has answered, and what its last search found.
 #[derive(Debug, Drop)]
 pub struct Direct {
     calls: u64,
@@ -18,7 +18,7 @@ pub struct Direct {
 }
 
 impl Direct {
-    /// It wasn't asked yet, and knows of no search.
+    /// It has answered nothing yet, and knows of no search.
     pub fn new() -> Direct
         ensures { result.calls ≡ 0 }
     {
@@ -28,7 +28,7 @@ impl Direct {
         }
     }
 
-    /// How often it was asked. The count stays at its type's last value.
+    /// How often it has answered. The count stays at its type's last value.
     pub fn calls(&self) -> u64
         ensures { result ≡ self.now.calls }
     {
@@ -47,8 +47,9 @@ impl Decider for Direct {
         typed: &Typed,
         condition: &Condition,
     ) -> Result<Option<Trace>, AllocError> {
+        let verdict = decide_with(alloc, typed, condition, &mut self.known)?;
         self.calls = self.calls.saturating_add(1);
-        match decide_with(alloc, typed, condition, &mut self.known)? {
+        match verdict {
             Verdict::Valid(_) => Ok(None),
             Verdict::Refuted(trace) => Ok(Some(trace)),
         }

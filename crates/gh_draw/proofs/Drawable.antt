@@ -1,5 +1,6 @@
 -- Drawable states have values within 32 bits.
-use Rattle.std.specs.Prelude.{◌≡◌, ◌≢◌, ℕ, zero, suc, ◌<◌, List, [], ◌∷◌, Bool, true, false, cond, Option, Some, None, length, get_or, All}
+use Rattle.std.specs.Prelude.{◌≡◌, ◌≢◌, ℕ, zero, suc, ◌<◌, List, [], ◌∷◌, Bool, true, false, cond, Option, Some, None}
+use Rattle.std.specs.Prelude.{length, get_or, All}
 use Rattle.std.specs.FinMap.{entries, find, get-entries}
 use Rattle.std.specs.Ordering.{nat_cmp, is_eq}
 use Rattle.std.specs.Cmp.{nat_cmp_is}
@@ -19,7 +20,8 @@ use Rattle.gh_draw.specs.Laws.{DrawableHaveValues}
 use Rattle.gh_draw.proofs.Refuted.{state_drawable}
 
 -- the name of an entry
-named_at : (es : List Entry) (k : ℕ) (d : Entry) (n : Name) → k < length es → get_or (listed_names es) k n ≡ (get_or es k d).name
+named_at : (es : List Entry) (k : ℕ) (d : Entry) (n : Name) → k < length es
+    → get_or (listed_names es) k n ≡ (get_or es k d).name
 named_at es k d n low = get_or-map (λ (e : Entry). e.name) es k d n low
 
 -- each entry is the first of its name
@@ -31,8 +33,10 @@ at_own es k d low apart = record {
       (named_at es j e d.name (omega (arith, less, low)) ∙ same ∙ sym (named_at es k d d.name low));
 }
 
-own_value : (es : List Entry) (k : ℕ) (d : Entry) → k < length es → AreDistinct es → store_of es (get_or es k d).name ≡ (get_or es k d).value
-own_value es k d low apart = let here = listed_here es (get_or es k d).name k d (at_own es k d low apart) in rw here refl
+own_value : (es : List Entry) (k : ℕ) (d : Entry) → k < length es → AreDistinct es
+    → store_of es (get_or es k d).name ≡ (get_or es k d).value
+own_value es k d low apart = let here = listed_here es (get_or es k d).name k d (at_own es k d low apart) in
+    rw here refl
 
 passed : (b : Bool) (v : ℕ) (o : Option ℕ) → b ≡ false → cond b (Some v) o ≡ None → o ≡ None
 passed true v o f e = absurd cc
@@ -43,9 +47,11 @@ no_null : (cells : List (ℕ × ℕ)) → find nat_cmp 0 cells ≡ None → All 
 no_null [] e = All-nil (λ (c : ℕ × ℕ). c.0 ≢ 0)
 no_null ((zero, v) ∷ cells) e = absurd cc
 no_null ((suc k, v) ∷ cells) e = All-cons (λ (c : ℕ × ℕ). c.0 ≢ 0) (suc k, v) cells (λ z. omega (arith, z))
-    (no_null cells (passed (is_eq (nat_cmp 0 (suc k))) v (find nat_cmp 0 cells) (ap is_eq (sym (nat_cmp_is 0 (suc k) Less (omega arith)))) e))
+    (no_null cells (passed (is_eq (nat_cmp 0 (suc k))) v (find nat_cmp 0 cells)
+    (ap is_eq (sym (nat_cmp_is 0 (suc k) Less (omega arith)))) e))
 
-has_values : (s : State) → AreDistinct s.store → IsProper s.heap → IsDrawable (listed_names s.store) (state_of s) → HasValues s
+has_values : (s : State) → AreDistinct s.store → IsProper s.heap → IsDrawable (listed_names s.store) (state_of s)
+    → HasValues s
 has_values s apart proper drawable = record {
   values = λ k d low.
       let name : Name = (get_or s.store k d).name in

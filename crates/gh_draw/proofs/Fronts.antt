@@ -17,7 +17,8 @@ use Rattle.gh_assert.specs.declared.store.Entry.{Entry}
 use Rattle.gh_trace.specs.declared.state.State.{State}
 use Rattle.gh_draw.specs.Drawings.{line}
 use Rattle.gh_draw.specs.Drawn.{IsOtherLine}
-use Rattle.gh_draw.specs.Reading.{After, NoDigitFirst, ShowsNumber, ShowsValue, ShowsEntries, ShowsCell, ShowsCellAbove, ShowsCells, ShowsHeap, ShowsState, ShowsStates, ShowsCondition, Skips, heading}
+use Rattle.gh_draw.specs.Reading.{After, NoDigitFirst, ShowsNumber, ShowsValue, ShowsEntries, ShowsCell, ShowsCellAbove}
+use Rattle.gh_draw.specs.Reading.{ShowsCells, ShowsHeap, ShowsState, ShowsStates, ShowsCondition, Skips, heading}
 
 abbrev pub IsOne : {X : Type 0} → (List ℕ → X → List ℕ → Type 0) → Type 0
 IsOne {X} S = (t : List ℕ) (x y : X) (a b : List ℕ) → S t x a → S t y b → (x ≡ y) × (a ≡ b)
@@ -54,7 +55,9 @@ decimal_digits n h = each_digit (decimal n) (digits_decimal own_digits n (wide n
 
 pub number_one : IsOne ShowsNumber
 number_one t n m a b s u =
-    let both = span_one (IsInRange 48 57) NoDigitFirst (λ c cs h. h) (decimal n) (decimal m) a b (decimal_digits n s.fits) (decimal_digits m u.fits) s.ends u.ends (sym s.shown ∙ u.shown) in
+    let both =
+    span_one (IsInRange 48 57) NoDigitFirst (λ c cs h. h) (decimal n) (decimal m) a b (decimal_digits n s.fits)
+    (decimal_digits m u.fits) s.ends u.ends (sym s.shown ∙ u.shown) in
     (decimal_injective n m (wide n s.fits) (wide m u.fits) both.0, both.1)
 
 pub after_one : {X : Type 0} (w : List ℕ) (S : List ℕ → X → List ℕ → Type 0) → IsOne S → IsOne (After w S)
@@ -78,7 +81,9 @@ entries_one (n ∷ ns) t es fs a b (v, m, gs, is, sv, se) (w, k, hs, js, sw, sf)
 pub cell_one : IsOne ShowsCell
 cell_one t c d a b (m, s, u) (k, p, q) =
     let at = number_one t c.0 d.0 m k s p in
-    let to = after_one (codes "->") ShowsNumber number_one k c.1 d.1 a b (subst (λ z. After (codes "->") ShowsNumber z c.1 a) at.1 u) q in
+    let to =
+    after_one (codes "->") ShowsNumber number_one k c.1 d.1 a b
+    (subst (λ z. After (codes "->") ShowsNumber z c.1 a) at.1 u) q in
     (λ i. (at.0 i, to.0 i), to.1)
 
 pub above_one : (low : ℕ) → IsOne (ShowsCellAbove low)
@@ -90,31 +95,38 @@ apart x y a b e = cc
 pub no_cell : (low : ℕ) (t : List ℕ) (c : ℕ × ℕ) (a b : List ℕ) → t ≡ codes "\n" ++ a → ShowsCellAbove low t c b → ⊥
 no_cell low t c a b e s = let bad : 10 ≡ 32 = apart 10 32 a s.cell.0 (sym e ∙ s.cell.1) in absurd (omega (arith, bad))
 
-pub cells_one : (low : ℕ) (t : List ℕ) (cs ds : List (ℕ × ℕ)) (a b : List ℕ) → ShowsCells low t cs a → ShowsCells low t ds b → (cs ≡ ds) × (a ≡ b)
+pub cells_one : (low : ℕ) (t : List ℕ) (cs ds : List (ℕ × ℕ)) (a b : List ℕ) → ShowsCells low t cs a
+    → ShowsCells low t ds b → (cs ≡ ds) × (a ≡ b)
 cells_one low t [] [] a b s u = (refl, append_cancel_left (codes "\n") a b (sym s ∙ u))
 cells_one low t [] (d ∷ ds) a b s u = absurd (no_cell low t d a u.0 s u.1)
 cells_one low t (c ∷ cs) [] a b s u = absurd (no_cell low t c b s.0 u s.1)
 cells_one low t (c ∷ cs) (d ∷ ds) a b (m, s, ss) (k, u, us) =
     let one = above_one low t c d m k s u in
-    let moved : ShowsCells d.0 k cs a = subst (λ z. ShowsCells d.0 z cs a) one.1 (subst (λ (z : ℕ × ℕ). ShowsCells z.0 m cs a) one.0 ss) in
+    let moved : ShowsCells d.0 k cs a =
+    subst (λ z. ShowsCells d.0 z cs a) one.1 (subst (λ (z : ℕ × ℕ). ShowsCells z.0 m cs a) one.0 ss) in
     let rest = cells_one d.0 k cs ds a b moved us in
     (λ i. one.0 i ∷ rest.0 i, rest.1)
 
 pub heap_one : IsOne ShowsHeap
-heap_one t g h a b s u = let both = cells_one 0 t (entries g) (entries h) a b s u in (same_entries_map g h both.0, both.1)
+heap_one t g h a b s u = let both = cells_one 0 t (entries g) (entries h) a b s u in
+    (same_entries_map g h both.0, both.1)
 
 pub state_one : (ns : List Name) (k : ℕ) → IsOne (ShowsState ns k)
 state_one ns k t x y a b s u =
     let values : s.values ≡ u.values = append_cancel_left (heading k) s.values u.values (sym s.begins ∙ u.begins) in
-    let stores = entries_one ns u.values x.store y.store (codes "\nheap" ++ s.cells) (codes "\nheap" ++ u.cells) (subst (λ z. ShowsEntries ns z x.store (codes "\nheap" ++ s.cells)) values s.store) u.store in
+    let stores =
+    entries_one ns u.values x.store y.store (codes "\nheap" ++ s.cells) (codes "\nheap" ++ u.cells)
+    (subst (λ z. ShowsEntries ns z x.store (codes "\nheap" ++ s.cells)) values s.store) u.store in
     let cells : s.cells ≡ u.cells = append_cancel_left (codes "\nheap") s.cells u.cells stores.1 in
     let heaps = heap_one u.cells x.heap y.heap a b (subst (λ z. ShowsHeap z x.heap a) cells s.heap) u.heap in
     (λ i. record { store = stores.0 i; heap = heaps.0 i }, heaps.1)
 
-pub no_state : (ns : List Name) (k : ℕ) (t : List ℕ) (x : State) (a b : List ℕ) → t ≡ codes "end\n" ++ a → ShowsState ns k t x b → ⊥
+pub no_state : (ns : List Name) (k : ℕ) (t : List ℕ) (x : State) (a b : List ℕ) → t ≡ codes "end\n" ++ a
+    → ShowsState ns k t x b → ⊥
 no_state ns k t x a b e s = let bad : 101 ≡ 115 = apart 101 115 _ _ (sym e ∙ s.begins) in absurd (omega (arith, bad))
 
-pub states_one : (ns : List Name) (k : ℕ) (t : List ℕ) (xs ys : List State) (a b : List ℕ) → ShowsStates ns k t xs a → ShowsStates ns k t ys b → (xs ≡ ys) × (a ≡ b)
+pub states_one : (ns : List Name) (k : ℕ) (t : List ℕ) (xs ys : List State) (a b : List ℕ) → ShowsStates ns k t xs a
+    → ShowsStates ns k t ys b → (xs ≡ ys) × (a ≡ b)
 states_one ns k t [] [] a b s u = (refl, append_cancel_left (codes "end\n") a b (sym s ∙ u))
 states_one ns k t [] (y ∷ ys) a b s u = absurd (no_state ns k t y a u.0 s u.1)
 states_one ns k t (x ∷ xs) [] a b s u = absurd (no_state ns k t x b s.0 u s.1)
@@ -126,7 +138,9 @@ states_one ns k t (x ∷ xs) (y ∷ ys) a b (m, s, ss) (n, u, us) =
 pub condition_one : IsOne ShowsCondition
 condition_one t n m a b (c, e, s) (d, f, u) =
     let same : c ≡ d = append_cancel_left (codes "condition ") c d (sym e ∙ f) in
-    let both = number_one d n m (codes "\n" ++ a) (codes "\n" ++ b) (subst (λ z. ShowsNumber z n (codes "\n" ++ a)) same s) u in
+    let both =
+    number_one d n m (codes "\n" ++ a) (codes "\n" ++ b) (subst (λ z. ShowsNumber z n (codes "\n" ++ a)) same s)
+    u in
     (both.0, append_cancel_left (codes "\n") a b both.1)
 
 -- lines
@@ -139,11 +153,17 @@ StartsEnd a = (b : List ℕ) × (a ≡ 10 ∷ b)
 
 pub within_line : (l : List ℕ) → (Contains l 10 → ⊥) → Each IsNotEnd l
 within_line [] h = tt
-within_line (c ∷ cs) h = (λ e. h (subst (λ z. Contains (c ∷ cs) z) e (member_first c cs)), within_line cs (λ there. h (member_later c 10 cs there)))
+within_line (c ∷ cs) h = (
+  λ e. h (subst (λ z. Contains (c ∷ cs) z) e (member_first c cs)),
+  within_line cs (λ there. h (member_later c 10 cs there)),
+)
 
-pub line_one : (l m a b : List ℕ) → (Contains l 10 → ⊥) → (Contains m 10 → ⊥) → l ++ 10 ∷ a ≡ m ++ 10 ∷ b → (l ≡ m) × (a ≡ b)
+pub line_one : (l m a b : List ℕ) → (Contains l 10 → ⊥) → (Contains m 10 → ⊥) → l ++ 10 ∷ a ≡ m ++ 10 ∷ b
+    → (l ≡ m) × (a ≡ b)
 line_one l m a b p q e =
-    let both = span_one IsNotEnd StartsEnd (λ c cs s h. h (apart c 10 cs s.0 s.1)) l m (10 ∷ a) (10 ∷ b) (within_line l p) (within_line m q) (a, refl) (b, refl) e in
+    let both =
+    span_one IsNotEnd StartsEnd (λ c cs s h. h (apart c 10 cs s.0 s.1)) l m (10 ∷ a) (10 ∷ b) (within_line l p)
+    (within_line m q) (a, refl) (b, refl) e in
     (both.0, append_cancel_left (10 ∷ []) a b both.1)
 
 -- a line, the others and what follows
@@ -152,26 +172,47 @@ line_first l x y = append_assoc (line l) x y ∙ append_assoc l (10 ∷ []) (x +
 
 pub no_member_of : (l : List ℕ) → Each IsNotEnd l → Contains l 10 → ⊥
 no_member_of [] h there = no_member 10 there
-no_member_of (c ∷ cs) h there = elim (member_cases c cs 10 there) [ inl same ↦ h.0 same | inr later ↦ no_member_of cs h.1 later ]
+no_member_of (c ∷ cs) h there =
+    elim (member_cases c cs 10 there) [ inl same ↦ h.0 same | inr later ↦ no_member_of cs h.1 later ]
 
 pub no_ends : Contains (codes "drawing") 10 → ⊥
-no_ends = no_member_of (codes "drawing") (λ e. absurd (omega arith), (λ e. absurd (omega arith), (λ e. absurd (omega arith), (λ e. absurd (omega arith), (λ e. absurd (omega arith), (λ e. absurd (omega arith), (λ e. absurd (omega arith), tt)))))))
+no_ends =
+    no_member_of (codes "drawing") (
+      λ e. absurd (omega arith),
+      (
+        λ e. absurd (omega arith),
+        (
+          λ e. absurd (omega arith),
+          (
+            λ e. absurd (omega arith),
+            (λ e. absurd (omega arith), (λ e. absurd (omega arith), (λ e. absurd (omega arith), tt))),
+          ),
+        ),
+      ),
+    )
 
 skipped_one : (ls ms : List (List ℕ)) (a b : List ℕ) → All IsOtherLine ls → All IsOtherLine ms
     → flat_map line ls ++ (codes "drawing\n" ++ a) ≡ flat_map line ms ++ (codes "drawing\n" ++ b) → a ≡ b
 skipped_one [] [] a b p q e = append_cancel_left (codes "drawing\n") a b e
 skipped_one [] (m ∷ ms) a b p q e =
     let other = All-head IsOtherLine m ms q in
-    let both = line_one (codes "drawing") m a (flat_map line ms ++ (codes "drawing\n" ++ b)) no_ends other.one (e ∙ line_first m (flat_map line ms) (codes "drawing\n" ++ b)) in
+    let both =
+    line_one (codes "drawing") m a (flat_map line ms ++ (codes "drawing\n" ++ b)) no_ends other.one
+    (e ∙ line_first m (flat_map line ms) (codes "drawing\n" ++ b)) in
     absurd (other.other (sym both.0))
 skipped_one (l ∷ ls) [] a b p q e =
     let other = All-head IsOtherLine l ls p in
-    let both = line_one l (codes "drawing") (flat_map line ls ++ (codes "drawing\n" ++ a)) b other.one no_ends (sym (line_first l (flat_map line ls) (codes "drawing\n" ++ a)) ∙ e) in
+    let both =
+    line_one l (codes "drawing") (flat_map line ls ++ (codes "drawing\n" ++ a)) b other.one no_ends
+    (sym (line_first l (flat_map line ls) (codes "drawing\n" ++ a)) ∙ e) in
     absurd (other.other both.0)
 skipped_one (l ∷ ls) (m ∷ ms) a b p q e =
     let first = All-head IsOtherLine l ls p in
     let second = All-head IsOtherLine m ms q in
-    let both = line_one l m (flat_map line ls ++ (codes "drawing\n" ++ a)) (flat_map line ms ++ (codes "drawing\n" ++ b)) first.one second.one (sym (line_first l (flat_map line ls) (codes "drawing\n" ++ a)) ∙ e ∙ line_first m (flat_map line ms) (codes "drawing\n" ++ b)) in
+    let both =
+    line_one l m (flat_map line ls ++ (codes "drawing\n" ++ a)) (flat_map line ms ++ (codes "drawing\n" ++ b))
+    first.one second.one (sym (line_first l (flat_map line ls) (codes "drawing\n" ++ a)) ∙ e
+    ∙ line_first m (flat_map line ms) (codes "drawing\n" ++ b)) in
     skipped_one ls ms a b (All-tail IsOtherLine l ls p) (All-tail IsOtherLine m ms q) both.1
 
 pub skips_one : (t a b : List ℕ) → Skips t a → Skips t b → a ≡ b

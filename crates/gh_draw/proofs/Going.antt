@@ -19,14 +19,19 @@ goes_begin P = record { sound = λ es rest holds. holds; whole = λ fs rest hold
 one_more : {X : Type 0} (done : List X) (x : X) (es : List X) → (done ++ x ∷ []) ++ es ≡ done ++ x ∷ es
 one_more done x es = append_assoc done (x ∷ []) es
 
-pub goes_more : {X : Type 0} (P Q R : List X → List ℕ → Type 0) (done : List X) (x : X) → Goes P Q done → Turns P R x → Goes R Q (done ++ x ∷ [])
+pub goes_more : {X : Type 0} (P Q R : List X → List ℕ → Type 0) (done : List X) (x : X) → Goes P Q done → Turns P R x
+    → Goes R Q (done ++ x ∷ [])
 goes_more {X} P Q R done x g t = record {
-  sound = λ es rest r. subst (λ (l : List X). Q l rest) (sym (one_more done x es)) (g.sound (x ∷ es) rest (t.sound es rest r));
+  sound =
+      λ es rest r. subst (λ (l : List X). Q l rest) (sym (one_more done x es))
+      (g.sound (x ∷ es) rest (t.sound es rest r));
   whole = λ fs rest q. after fs rest (g.whole fs rest q);
 }
   where
-    at_turn : (fs : List X) (rest : List ℕ) (es : List X) → fs ≡ done ++ es → (ds : List X) × (es ≡ x ∷ ds) × R ds rest → (es : List X) × (fs ≡ (done ++ x ∷ []) ++ es) × R es rest
+    at_turn : (fs : List X) (rest : List ℕ) (es : List X) → fs ≡ done ++ es → (ds : List X) × (es ≡ x ∷ ds) × R ds rest
+        → (es : List X) × (fs ≡ (done ++ x ∷ []) ++ es) × R es rest
     at_turn fs rest es is (ds, turn, r) = (ds, is ∙ ap (λ l. done ++ l) turn ∙ sym (one_more done x ds), r)
 
-    after : (fs : List X) (rest : List ℕ) → (es : List X) × (fs ≡ done ++ es) × P es rest → (es : List X) × (fs ≡ (done ++ x ∷ []) ++ es) × R es rest
+    after : (fs : List X) (rest : List ℕ) → (es : List X) × (fs ≡ done ++ es) × P es rest
+        → (es : List X) × (fs ≡ (done ++ x ∷ []) ++ es) × R es rest
     after fs rest (es, is, holds) = at_turn fs rest es is (t.whole es rest holds)

@@ -1,5 +1,6 @@
 -- Texts without a line feed: names, numbers and the words of a report.
-use Rattle.std.specs.Prelude.{◌≡◌, ◌≢◌, ℕ, suc, zero, ◌+◌, ◌==◌, ◌/◌, ◌%◌, List, [], ◌∷◌, ◌++◌, codes, Bool, true, false, IsTrue, if◌then◌else◌, nat_lt, All, Contains}
+use Rattle.std.specs.Prelude.{◌≡◌, ◌≢◌, ℕ, suc, zero, ◌+◌, ◌==◌, ◌/◌, ◌%◌, List, [], ◌∷◌, ◌++◌, codes, Bool, true}
+use Rattle.std.specs.Prelude.{false, IsTrue, if◌then◌else◌, nat_lt, All, Contains}
 use Rattle.std.specs.Fmt.{decimal, digits, digits_onto, digit_glyph}
 use Rattle.std.proofs.Common.{refl, subst, inl, inr, arith}
 use Rattle.std.proofs.lemmas.Bool.Decides.{nat_tests}
@@ -45,7 +46,10 @@ no_name_byte c h e = let bad : is_name_byte 10 ≡ true = subst (λ d. is_name_b
 
 bytes_line : (w : List ℕ) → All (λ b. IsTrue (is_name_byte b)) w → IsOneLine w
 bytes_line [] h = tt
-bytes_line (c ∷ cs) h = (no_name_byte c (All-head (λ b. IsTrue (is_name_byte b)) c cs h), bytes_line cs (All-tail (λ b. IsTrue (is_name_byte b)) c cs h))
+bytes_line (c ∷ cs) h = (
+  no_name_byte c (All-head (λ b. IsTrue (is_name_byte b)) c cs h),
+  bytes_line cs (All-tail (λ b. IsTrue (is_name_byte b)) c cs h),
+)
 
 pub name_line : (w : List ℕ) → IsNameWord w → IsOneLine w
 name_line w h = bytes_line w h.word.letters
@@ -76,16 +80,21 @@ decimal_line n = onto_line 64 n [] tt
 
 -- the line that says which condition is refuted
 abbrev pub headline : ℕ → ℕ → ℕ → List ℕ
-headline k count before = codes "refuted: condition " ++ decimal k ++ codes " of " ++ decimal count ++ codes ", " ++ decimal before ++ codes " valid before it"
+headline k count before =
+    codes "refuted: condition " ++ decimal k ++ codes " of " ++ decimal count ++ codes ", " ++ decimal before
+    ++ codes " valid before it"
 
 headline_line : (k count before : ℕ) → IsOneLine (headline k count before)
 headline_line k count before =
-    line_both (codes "refuted: condition " ++ decimal k ++ codes " of " ++ decimal count ++ codes ", " ++ decimal before) (codes " valid before it")
-    (line_both (codes "refuted: condition " ++ decimal k ++ codes " of " ++ decimal count ++ codes ", ") (decimal before)
+    line_both (codes "refuted: condition " ++ decimal k ++ codes " of " ++ decimal count ++ codes ", "
+    ++ decimal before) (codes " valid before it")
+    (line_both (codes "refuted: condition " ++ decimal k ++ codes " of " ++ decimal count ++ codes ", ")
+    (decimal before)
     (line_both (codes "refuted: condition " ++ decimal k ++ codes " of " ++ decimal count) (codes ", ")
     (line_both (codes "refuted: condition " ++ decimal k ++ codes " of ") (decimal count)
     (line_both (codes "refuted: condition " ++ decimal k) (codes " of ")
-    (line_both (codes "refuted: condition ") (decimal k) (word_line (codes "refuted: condition ") refl) (decimal_line k)) (word_line (codes " of ") refl))
+    (line_both (codes "refuted: condition ") (decimal k) (word_line (codes "refuted: condition ") refl)
+    (decimal_line k)) (word_line (codes " of ") refl))
     (decimal_line count))
     (word_line (codes ", ") refl))
     (decimal_line before))

@@ -46,7 +46,8 @@ states_text names k (x ∷ xs) = state_text names k x ++ states_text names (suc 
 
 abbrev pub drawing : ℕ → List Name → List State → List ℕ
 drawing number names xs =
-    line (codes "drawing") ++ line (codes "condition " ++ decimal number) ++ states_text names 0 xs ++ line (codes "end")
+    line (codes "drawing") ++ line (codes "condition " ++ decimal number) ++ states_text names 0 xs
+    ++ line (codes "end")
 
 -- a drawing has no value past 32 bits
 pub record IsDrawable (names : List Name) (x : State) : Type 0 where

@@ -67,7 +67,8 @@ ShowsValue name = After (codes " ") (After name (After (codes "=") ShowsNumber))
 abbrev pub ShowsEntries : List Name → List ℕ → List Entry → List ℕ → Type 0
 ShowsEntries [] text es rest = (es ≡ []) × (text ≡ rest)
 ShowsEntries (n ∷ ns) text es rest =
-    (v : ℕ) × (mid : List ℕ) × (fs : List Entry) × (es ≡ record { name = n; value = v } ∷ fs) × ShowsValue n text v mid × ShowsEntries ns mid fs rest
+    (v : ℕ) × (mid : List ℕ) × (fs : List Entry) × (es ≡ record { name = n; value = v } ∷ fs) × ShowsValue n text v mid
+    × ShowsEntries ns mid fs rest
 
 -- `PLACE->CONTENT`
 abbrev pub ShowsCell : List ℕ → ℕ × ℕ → List ℕ → Type 0
@@ -101,7 +102,8 @@ pub record ShowsState (names : List Name) (k : ℕ) (text : List ℕ) (s : State
 -- states from a number on, and the end
 abbrev pub ShowsStates : List Name → ℕ → List ℕ → List State → List ℕ → Type 0
 ShowsStates names k text [] rest = text ≡ codes "end\n" ++ rest
-ShowsStates names k text (s ∷ ss) rest = (mid : List ℕ) × ShowsState names k text s mid × ShowsStates names (suc k) mid ss rest
+ShowsStates names k text (s ∷ ss) rest =
+    (mid : List ℕ) × ShowsState names k text s mid × ShowsStates names (suc k) mid ss rest
 
 -- the states that are read at the front of the text, up to the line `end`
 abbrev pub AreStatesRead : List Name → List ℕ → List ℕ → Option (Vec State Global) → Type 0

@@ -34,7 +34,8 @@ mutual
   some_decided no_claims s h = inr (λ u. u)
   some_decided (claim_first c cs) s h = elim (claim_decided c s h) [
     | inl one ↦ inl (inl one)
-    | inr no' ↦ elim (some_decided cs s h) [ inl some ↦ inl (inr some) | inr none ↦ inr (λ u. elim u [ inl a ↦ no' a | inr b ↦ none b ]) ]
+    | inr no' ↦ elim (some_decided cs s h)
+        [ inl some ↦ inl (inr some) | inr none ↦ inr (λ u. elim u [ inl a ↦ no' a | inr b ↦ none b ]) ]
   ]
 
 pub sections_show_entailment : SectionsShowEntailment
@@ -50,6 +51,7 @@ models_decide q = (
   λ holds m I. let against = models_fail q m I in against.right (holds _ _ against.left),
   λ none s h left. elim (claim_decided q.right s h) [
     | inl right ↦ right
-    | inr out ↦ let found = failures_give_models q s h (record { left = left; right = out }) in absurd (none found.0 found.1)
+    | inr out ↦ let found = failures_give_models q s h (record { left = left; right = out }) in
+        absurd (none found.0 found.1)
   ],
 )

@@ -23,10 +23,12 @@ mutual
 
   pub claims_grow : (cs : Claims) (negative : Bool) (s : Terms) → Grows s (claims_walked negative cs s)
   claims_grow no_claims negative s = stays s
-  claims_grow (claim_first c cs) negative s = onto (claim_grows c negative s) (claims_grow cs negative (claim_walked negative c s))
+  claims_grow (claim_first c cs) negative s =
+      onto (claim_grows c negative s) (claims_grow cs negative (claim_walked negative c s))
 
 pub question_grows : (q : Question) → Grows no_terms (question_walked q)
-question_grows q = onto (claim_grows q.left false no_terms) (claim_grows q.right true (claim_walked false q.left no_terms))
+question_grows q =
+    onto (claim_grows q.left false no_terms) (claim_grows q.right true (claim_walked false q.left no_terms))
 
 witness_bounded : (negative : Bool) (s : Terms) → IsBounded s → IsBounded (witnessed negative s)
 witness_bounded true s B = more_kinds s (witnessed true s) (value_within s.kinds) refl B
@@ -41,10 +43,13 @@ mutual
 
   claims_bounded : (cs : Claims) (negative : Bool) (s : Terms) → IsBounded s → IsBounded (claims_walked negative cs s)
   claims_bounded no_claims negative s B = B
-  claims_bounded (claim_first c cs) negative s B = claims_bounded cs negative (claim_walked negative c s) (claim_bounded c negative s B)
+  claims_bounded (claim_first c cs) negative s B =
+      claims_bounded cs negative (claim_walked negative c s) (claim_bounded c negative s B)
 
 pub nothing_bounded : IsBounded no_terms
 nothing_bounded = record { some = omega arith; below = λ y t e. absurd cc }
 
 pub question_bounded : (q : Question) → IsBounded (question_walked q)
-question_bounded q = claim_bounded q.right true (claim_walked false q.left no_terms) (claim_bounded q.left false no_terms nothing_bounded)
+question_bounded q =
+    claim_bounded q.right true (claim_walked false q.left no_terms)
+    (claim_bounded q.left false no_terms nothing_bounded)

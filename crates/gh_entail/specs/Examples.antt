@@ -4,7 +4,7 @@ use Rattle.gh_base.specs.declared.place.Span.{Span}
 use Rattle.gh_ast.specs.declared.Occ.{Occ}
 use Rattle.gh_ast.specs.declared.Operand.{Operand}
 use Rattle.gh_ast.specs.declared.Operand.TheVariants.{Null, Var}
-use Rattle.gh_ast.specs.Plain.{empty, comparison, cell, segment, star, no_formulas, formula_first}
+use Rattle.gh_ast.specs.Plain.{empty, comparison, cell, segment, star, no_assertions, assertion_first}
 use Rattle.gh_path.specs.Terms.{null, value, next}
 use Rattle.gh_ast.specs.Questions.{leaf, denial, every, no_claims, claim_first, Question}
 use Rattle.gh_entail.specs.Terms.{question_walked}
@@ -27,7 +27,13 @@ nil = Null somewhere
 
 -- `requires { lseg(x, y) &*& lseg(y, null) } ensures { lseg(x, null) }`
 abbrev pub composed_segments : Question
-composed_segments = record { variables = letter 120 ∷ letter 121 ∷ []; span = somewhere; left = leaf (star (formula_first (segment x y) (formula_first (segment y nil) no_formulas))); right = leaf (segment x nil) }
+composed_segments = record {
+  variables = letter 120 ∷ letter 121 ∷ [];
+  span = somewhere;
+  left = leaf (star (assertion_first (segment x y) (assertion_first (segment y nil) no_assertions)));
+  right =
+      leaf (segment x nil);
+}
 
 -- `requires { lseg(x, null) } && !{ emp } ensures !{ x == null } && !{ x != null }`
 abbrev pub not_empty : Question
@@ -36,12 +42,18 @@ not_empty =
       variables = letter 120 ∷ [];
       span = somewhere;
       left = every (claim_first (leaf (segment x nil)) (claim_first (denial (leaf empty)) no_claims));
-      right = every (claim_first (denial (leaf (comparison x true nil))) (claim_first (denial (leaf (comparison x false nil))) no_claims));
+      right = every (claim_first (denial (leaf (comparison x true nil)))
+          (claim_first (denial (leaf (comparison x false nil))) no_claims));
     }
 
 -- `requires { x == null } ensures { acc(x) }`
 abbrev pub nowhere : Question
-nowhere = record { variables = letter 120 ∷ []; span = somewhere; left = leaf (comparison x true nil); right = leaf (cell (letter 120)) }
+nowhere = record {
+  variables = letter 120 ∷ [];
+  span = somewhere;
+  left = leaf (comparison x true nil);
+  right = leaf (cell (letter 120));
+}
 
 -- the last value of each is a witness: that of the right claim, of `!{ emp }`, of the right claim
 pub record ExamplesHold : Type 0 where

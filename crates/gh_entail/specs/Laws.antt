@@ -6,7 +6,7 @@ use Rattle.gh_base.specs.Atoms.{term}
 use Rattle.gh_inst.specs.Models.{IsModel}
 use Rattle.gh_log.specs.Lines.{LogLine}
 use Rattle.gh_log.specs.Sections.{IsValidSection}
-use Rattle.gh_ast.specs.Plain.{Formula}
+use Rattle.gh_ast.specs.Plain.{Assertion}
 use Rattle.gh_ast.specs.Programs.{Name}
 use Rattle.gh_assert.specs.Heaps.{Heap, IsProper}
 use Rattle.gh_assert.specs.Meaning.{Store}
@@ -26,7 +26,8 @@ use Rattle.gh_entail.specs.Hops.{Heads, Depicts}
 
 -- one value is enough to show whether an assertion is met: its witness
 abbrev pub WitnessesExist : Type 0
-WitnessesExist = (f : Formula) (s : Store) (h : Heap) → IsProper h → (z : ℕ) × ((V : List ℕ) → Contains V z → IsShown V f s h)
+WitnessesExist =
+    (f : Assertion) (s : Store) (h : Heap) → IsProper h → (z : ℕ) × ((V : List ℕ) → Contains V z → IsShown V f s h)
 
 -- each heap is depicted by some structure, owned or not
 abbrev pub DepictionsExist : Type 0
@@ -34,11 +35,13 @@ DepictionsExist = (V : List ℕ) (h : Heap) → IsProper h → (m : HeapStructur
 
 -- which keeps the axioms
 abbrev pub DepictionsAreModels : Type 0
-DepictionsAreModels = (V : List ℕ) (h : Heap) (m : HeapStructure) → IsProper h → Contains V 0 → Depicts V h m → IsModelOver V m
+DepictionsAreModels =
+    (V : List ℕ) (h : Heap) (m : HeapStructure) → IsProper h → Contains V 0 → Depicts V h m → IsModelOver V m
 
 -- and whose built heap, which is owned, looks like the heap
 abbrev pub DepictionsLookAlike : Type 0
-DepictionsLookAlike = (V : List ℕ) (h : Heap) (m : HeapStructure) → IsProper h → Contains V 0 → Depicts V h m → LooksLike V h (built V m)
+DepictionsLookAlike =
+    (V : List ℕ) (h : Heap) (m : HeapStructure) → IsProper h → Contains V 0 → Depicts V h m → LooksLike V h (built V m)
 
 -- a model of the clauses of the question and of the axioms
 abbrev pub IsModelOf : Question → Interpretation → Type 0
@@ -61,19 +64,24 @@ ModelsFail = (q : Question) (m : Interpretation) → IsModelOf q m → Fails q (
 pub record AreValues (q : Question) (s : Store) (h : Heap) (V : List ℕ) : Type 0 where
   pub count : length V ≡ length (question_walked q).kinds
   pub null : slice_get V 0 ≡ Some 0
-  pub follows : (t i u v : ℕ) → slice_get (question_walked q).kinds t ≡ Some (next i u) → slice_get V u ≡ Some v → slice_get V t ≡ Some (succ h v)
+  pub follows : (t i u v : ℕ) → slice_get (question_walked q).kinds t ≡ Some (next i u) → slice_get V u ≡ Some v
+      → slice_get V t ≡ Some (succ h v)
   pub bound : (y : Name) (t : ℕ) → (question_walked q).bindings y ≡ Some t → slice_get V t ≡ Some (s y)
 
 -- terms of one class are those of one value, and the atoms say of terms what is so of their values
 pub record IsDepicted (V : List ℕ) (h : Heap) (m : Interpretation) : Type 0 where
   pub classes : (t u v w : ℕ) → slice_get V t ≡ Some v → slice_get V u ≡ Some w → (m.class t ≡ m.class u) ↔ (v ≡ w)
   pub alloc : (t x : ℕ) → slice_get V t ≡ Some x → Decides (atom_truth m (Alloc 0 (term t))) (Allocated h x)
-  pub between : (t u w x y z : ℕ) → slice_get V t ≡ Some x → slice_get V u ≡ Some y → slice_get V w ≡ Some z → Decides (atom_truth m (Btwn 0 (term t) (term u) (term w))) (Between h x y z)
-  pub hop : (t u x v : ℕ) → slice_get V t ≡ Some x → slice_get V u ≡ Some v → Decides (atom_truth m (Hop 0 (term t) (term u))) (Heads V h x v)
+  pub between : (t u w x y z : ℕ) → slice_get V t ≡ Some x → slice_get V u ≡ Some y → slice_get V w ≡ Some z
+      → Decides (atom_truth m (Btwn 0 (term t) (term u) (term w))) (Between h x y z)
+  pub hop : (t u x v : ℕ) → slice_get V t ≡ Some x → slice_get V u ≡ Some v
+      → Decides (atom_truth m (Hop 0 (term t) (term u))) (Heads V h x v)
 
 -- Yes: a store and a heap in which the question fails give values for the terms and a model that depicts the heap
 abbrev pub FailuresAreDepicted : Type 0
-FailuresAreDepicted = (q : Question) (s : Store) (h : Heap) → IsProper h → Fails q s h → (V : List ℕ) × AreValues q s h V × ((m : Interpretation) × IsModelOf q m × IsDepicted V h m)
+FailuresAreDepicted =
+    (q : Question) (s : Store) (h : Heap) → IsProper h → Fails q s h
+    → (V : List ℕ) × AreValues q s h V × ((m : Interpretation) × IsModelOf q m × IsDepicted V h m)
 
 -- they give a model also where the heap has a cell at null
 abbrev pub FailuresGiveModels : Type 0
@@ -81,7 +89,8 @@ FailuresGiveModels = (q : Question) (s : Store) (h : Heap) → Fails q s h → (
 
 -- so a question whose clauses have a valid section is entailed
 abbrev pub SectionsShowEntailment : Type 0
-SectionsShowEntailment = (q : Question) (lines : List LogLine) → IsValidSection (question_problem q) lines → IsEntailed q
+SectionsShowEntailment =
+    (q : Question) (lines : List LogLine) → IsValidSection (question_problem q) lines → IsEntailed q
 
 -- and it is entailed exactly where there is no model
 abbrev pub ModelsDecide : Type 0

@@ -36,6 +36,9 @@ pub record KeepsLimits (q : Question) : Type 0 where
 -- the limit that is answered: variables before atoms, and atoms before terms, of which no more are counted than one
 -- past the limit
 pub data IsLimit (q : Question) (l : Limit) : Type 0 where
-  of_variables : most_variables < length q.variables → l ≡ record { kind = 2; span = q.span; count = reported (length q.variables) } → IsLimit q l
-  of_atoms : length q.variables ≤ most_variables → most_atoms < count_atoms q → l ≡ record { kind = 3; span = q.span; count = reported (count_atoms q) } → IsLimit q l
-  of_terms : KeepsTextLimits q → most_terms < count_terms q → l ≡ record { kind = 6; span = q.span; count = most_terms + 1 } → IsLimit q l
+  of_variables : most_variables < length q.variables
+      → l ≡ record { kind = 2; span = q.span; count = reported (length q.variables) } → IsLimit q l
+  of_atoms : length q.variables ≤ most_variables → most_atoms < count_atoms q
+      → l ≡ record { kind = 3; span = q.span; count = reported (count_atoms q) } → IsLimit q l
+  of_terms : KeepsTextLimits q → most_terms < count_terms q
+      → l ≡ record { kind = 6; span = q.span; count = most_terms + 1 } → IsLimit q l

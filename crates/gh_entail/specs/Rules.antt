@@ -4,13 +4,13 @@ use denote.Ref.{Bor}
 use Rattle.gh_base.specs.declared.place.Span.{Span}
 use Rattle.gh_ast.specs.declared.Occ.{Occ}
 use Rattle.gh_ast.specs.Questions.{Claim, leaf, denial, every, either, Claims, no_claims, claim_first, Question}
-use Rattle.gh_ast.specs.Occurrences.{in_formula}
+use Rattle.gh_ast.specs.Occurrences.{in_assertion}
 use Rattle.gh_ast.specs.Rules.{HasName, RepeatedAt, IsFirstError}
 
 -- the occurrences of variables in a claim, from left to right
 abbrev mutual
   pub in_claim : Claim → List Occ
-  in_claim (leaf f) = in_formula f
+  in_claim (leaf f) = in_assertion f
   in_claim (denial c) = in_claim c
   in_claim (every cs) = in_claims cs
   in_claim (either cs) = in_claims cs

@@ -1,8 +1,8 @@
 // The ground formula of a claim.
 
 ghost use Rattle.std.specs.Prelude.{◌≡◌, IfOk};
-ghost use Rattle.gh_ast.specs.Plain.{formula_of};
-ghost use Rattle.gh_grass.specs.Claims.{claim_of, claims_list};
+ghost use Rattle.gh_ast.specs.Plain.{assertion_of};
+ghost use Rattle.gh_grass.specs.Claims.{ground_formula_of, ground_formula_list};
 ghost use Rattle.gh_symb.specs.Formulas as formulas;
 ghost use Rattle.gh_ast.specs.Questions as questions;
 ghost use Rattle.gh_ast.specs.Questions.{claims_view};
@@ -25,7 +25,7 @@ fn meets(
     binding: &Binding,
     terms: &TermList,
 ) -> Result<Formula, AllocError>
-    ensures { IfOk result (λ f. claim_of f ≡ meets_over terms.now binding.now (formula_of assertion.now)) }
+    ensures { IfOk result (λ f. ground_formula_of f ≡ meets_over terms.now binding.now (assertion_of assertion.now)) }
 {
     Ok(structure_of(alloc, assertion, binding, 0, terms)?)
 }
@@ -37,7 +37,7 @@ fn within(
     binding: &Binding,
     z: Term,
 ) -> Result<Formula, AllocError>
-    ensures { IfOk result (λ f. claim_of f ≡ formulas.within (under_at binding.now (formula_of assertion.now)) z) }
+    ensures { IfOk result (λ f. ground_formula_of f ≡ formulas.within (under_at binding.now (assertion_of assertion.now)) z) }
 {
     Ok(footprint_at(alloc, assertion, binding, 0, z)?)
 }
@@ -49,7 +49,7 @@ fn covers(
     binding: &Binding,
     z: Term,
 ) -> Result<Formula, AllocError>
-    ensures { IfOk result (λ f. claim_of f ≡ formulas.covers (under_at binding.now (formula_of assertion.now)) z) }
+    ensures { IfOk result (λ f. ground_formula_of f ≡ formulas.covers (under_at binding.now (assertion_of assertion.now)) z) }
 {
     let inside = within(alloc, assertion, binding, z)?;
     Ok(allocated(0, z).iff(alloc, inside)?)
@@ -62,7 +62,7 @@ fn meets_whole(
     binding: &Binding,
     terms: &TermList,
 ) -> Result<Formula, AllocError>
-    ensures { IfOk result (λ f. claim_of f ≡ meets_whole_over terms.now binding.now (formula_of assertion.now)) }
+    ensures { IfOk result (λ f. ground_formula_of f ≡ meets_whole_over terms.now binding.now (assertion_of assertion.now)) }
 {
     let mut members = Vec::new(alloc);
     members.push(meets(alloc, assertion, binding, terms)?)?;
@@ -80,7 +80,7 @@ pub fn formula_of_claim(
     binding: &Binding,
     terms: &TermList,
 ) -> Result<Formula, AllocError>
-    ensures { IfOk result (λ f. claim_of f ≡ claim_over terms.now binding.now (questions.claim_of claim.now)) }
+    ensures { IfOk result (λ f. ground_formula_of f ≡ claim_over terms.now binding.now (questions.claim_of claim.now)) }
 {
     match claim {
         Claim::Leaf(assertion) => Ok(meets_whole(alloc, assertion, binding, terms)?),
@@ -107,7 +107,7 @@ fn formulas_of_claims(
     binding: &Binding,
     terms: &TermList,
 ) -> Result<Vec<Formula>, AllocError>
-    ensures { IfOk result (λ fs. claims_list fs.items ≡ claims_over terms.now binding.now (claims_view claims.now)) }
+    ensures { IfOk result (λ fs. ground_formula_list fs.items ≡ claims_over terms.now binding.now (claims_view claims.now)) }
 {
     let mut formulas = Vec::new(alloc);
     for claim in claims {

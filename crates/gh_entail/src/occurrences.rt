@@ -2,8 +2,8 @@
 
 ghost use Rattle.std.specs.Prelude.{◌≡◌, OnOk};
 ghost use Rattle.gh_ast.specs.Limits.{reported};
-ghost use Rattle.gh_ast.specs.Occurrences.{in_operand, in_expr, in_test, in_tests, in_formula, in_formulas};
-ghost use Rattle.gh_ast.specs.Plain.{test_of, tests_view, formula_of, formulas_view};
+ghost use Rattle.gh_ast.specs.Occurrences.{in_operand, in_expr, in_cond, in_conds, in_assertion, in_assertions};
+ghost use Rattle.gh_ast.specs.Plain.{cond_of, conds_view, assertion_of, assertions_view};
 ghost use Rattle.gh_ast.specs.Questions.{claim_of, claims_view};
 ghost use Rattle.gh_entail.specs.Limits.{claim_atoms, claims_atoms};
 ghost use Rattle.gh_entail.specs.Rules.{in_claim, in_claims, Gathers};
@@ -33,7 +33,7 @@ fn add_expr<'a>(found: &mut Vec<&'a Occ>, expr: &'a Expr) -> Result<(), AllocErr
 
 #[cycle(any_test)]
 fn add_test<'a>(found: &mut Vec<&'a Occ>, test: &'a Cond) -> Result<(), AllocError>
-    ensures { OnOk result (Gathers found.old.items found.new.items (in_test (test_of test.now))) }
+    ensures { OnOk result (Gathers found.old.items found.new.items (in_cond (cond_of test.now))) }
 {
     match test {
         Cond::Compare { left, right, .. } => {
@@ -48,7 +48,7 @@ fn add_test<'a>(found: &mut Vec<&'a Occ>, test: &'a Cond) -> Result<(), AllocErr
 
 #[cycle(any_test)]
 fn add_tests<'a>(found: &mut Vec<&'a Occ>, tests: &'a [Cond]) -> Result<(), AllocError>
-    ensures { OnOk result (Gathers found.old.items found.new.items (in_tests (tests_view tests.now))) }
+    ensures { OnOk result (Gathers found.old.items found.new.items (in_conds (conds_view tests.now))) }
 {
     for test in tests {
         add_test(found, test)?;
@@ -58,7 +58,7 @@ fn add_tests<'a>(found: &mut Vec<&'a Occ>, tests: &'a [Cond]) -> Result<(), Allo
 
 #[cycle(assertion)]
 fn add_assertion<'a>(found: &mut Vec<&'a Occ>, assertion: &'a Assertion) -> Result<(), AllocError>
-    ensures { OnOk result (Gathers found.old.items found.new.items (in_formula (formula_of assertion.now))) }
+    ensures { OnOk result (Gathers found.old.items found.new.items (in_assertion (assertion_of assertion.now))) }
 {
     match assertion {
         Assertion::Emp => Ok(()),
@@ -89,7 +89,7 @@ fn add_assertions<'a>(
     found: &mut Vec<&'a Occ>,
     assertions: &'a [Assertion],
 ) -> Result<(), AllocError>
-    ensures { OnOk result (Gathers found.old.items found.new.items (in_formulas (formulas_view assertions.now))) }
+    ensures { OnOk result (Gathers found.old.items found.new.items (in_assertions (assertions_view assertions.now))) }
 {
     for assertion in assertions {
         add_assertion(found, assertion)?;

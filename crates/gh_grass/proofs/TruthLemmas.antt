@@ -72,7 +72,8 @@ clause_true m (l ∷ ls) e = elim (one_of_two (lit_truth m l) (some_lit m ls) e)
 pub true_clause : (m : Interpretation) (c : List Lit) → IsClauseTrue m c → some_lit m c ≡ true
 true_clause m [] (k, x, h, e, t) = absurd (omega (arith, h))
 true_clause m (l ∷ ls) (zero, x, h, e, t) = or_left (lit_truth m l) (some_lit m ls) (ap (lit_truth m) e ∙ t)
-true_clause m (l ∷ ls) (suc k, x, h, e, t) = or_right (lit_truth m l) (some_lit m ls) (true_clause m ls (k, x, omega (arith, h), e, t))
+true_clause m (l ∷ ls) (suc k, x, h, e, t) =
+    or_right (lit_truth m l) (some_lit m ls) (true_clause m ls (k, x, omega (arith, h), e, t))
 
 pub clauses_true : (m : Interpretation) (cs : List (List Lit)) → all_clauses m cs ≡ true → All (IsClauseTrue m) cs
 clauses_true m [] e = λ k d h. absurd (omega (arith, h))
@@ -83,15 +84,18 @@ clauses_true m (c ∷ cs) e =
 pub true_clauses : (m : Interpretation) (cs : List (List Lit)) → All (IsClauseTrue m) cs → all_clauses m cs ≡ true
 true_clauses m [] h = refl
 true_clauses m (c ∷ cs) h =
-    joined (some_lit m c) (all_clauses m cs) (true_clause m c (h 0 c (omega arith))) (true_clauses m cs (λ k d l. h (suc k) d (omega (arith, l))))
+    joined (some_lit m c) (all_clauses m cs) (true_clause m c (h 0 c (omega arith)))
+    (true_clauses m cs (λ k d l. h (suc k) d (omega (arith, l))))
 
 and_assoc : (a b c : Bool) → a && (b && c) ≡ (a && b) && c
 and_assoc true b c = refl
 and_assoc false b c = refl
 
-pub all_append : (m : Interpretation) (xs ys : List (List Lit)) → all_clauses m (xs ++ ys) ≡ all_clauses m xs && all_clauses m ys
+pub all_append : (m : Interpretation) (xs ys : List (List Lit))
+    → all_clauses m (xs ++ ys) ≡ all_clauses m xs && all_clauses m ys
 all_append m [] ys = refl
-all_append m (c ∷ cs) ys = ap (λ b. some_lit m c && b) (all_append m cs ys) ∙ and_assoc (some_lit m c) (all_clauses m cs) (all_clauses m ys)
+all_append m (c ∷ cs) ys =
+    ap (λ b. some_lit m c && b) (all_append m cs ys) ∙ and_assoc (some_lit m c) (all_clauses m cs) (all_clauses m ys)
 
 or_true : (a : Bool) → true ≡ a || true
 or_true true = refl
@@ -103,7 +107,8 @@ conj_member true l a = refl
 conj_member false true a = refl
 conj_member false false a = refl
 
-conj_members : (m : Interpretation) (d : ℕ) (ls : List Lit) → all_clauses m (map (λ l. opposite (defined d) ∷ l ∷ []) ls) ≡ not (m.table (Def d)) || all_lits m ls
+conj_members : (m : Interpretation) (d : ℕ) (ls : List Lit)
+    → all_clauses m (map (λ l. opposite (defined d) ∷ l ∷ []) ls) ≡ not (m.table (Def d)) || all_lits m ls
 conj_members m d [] = or_true (not (m.table (Def d)))
 conj_members m d (l ∷ ls) =
     ap (λ b. (not (m.table (Def d)) || (lit_truth m l || false)) && b) (conj_members m d ls)
@@ -116,7 +121,8 @@ not_and false b = refl
 opposites : (m : Interpretation) (ls : List Lit) → some_lit m (map opposite ls) ≡ not (all_lits m ls)
 opposites m [] = refl
 opposites m (l ∷ ls) =
-    or_same (lit_truth m (opposite l)) (not (lit_truth m l)) (some_lit m (map opposite ls)) (not (all_lits m ls)) (truth_of_opposite m l) (opposites m ls)
+    or_same (lit_truth m (opposite l)) (not (lit_truth m l)) (some_lit m (map opposite ls)) (not (all_lits m ls))
+    (truth_of_opposite m l) (opposites m ls)
     ∙ not_and (lit_truth m l) (all_lits m ls)
 
 conj_last : (d a : Bool) → (not d || a) && ((d || not a) && true) ≡ agree d a
@@ -125,7 +131,8 @@ conj_last true false = refl
 conj_last false true = refl
 conj_last false false = refl
 
-pub conj_clauses : (m : Interpretation) (d : ℕ) (ls : List Lit) → all_clauses m (conjunction_clauses d ls) ≡ agree (m.table (Def d)) (all_lits m ls)
+pub conj_clauses : (m : Interpretation) (d : ℕ) (ls : List Lit)
+    → all_clauses m (conjunction_clauses d ls) ≡ agree (m.table (Def d)) (all_lits m ls)
 conj_clauses m d ls =
     all_append m (map (λ l. opposite (defined d) ∷ l ∷ []) ls) ((defined d ∷ map opposite ls) ∷ [])
     ∙ ap (λ b. b && ((m.table (Def d) || some_lit m (map opposite ls)) && true)) (conj_members m d ls)
@@ -138,7 +145,8 @@ disj_member true l s = refl
 disj_member false true s = refl
 disj_member false false s = refl
 
-disj_members : (m : Interpretation) (d : ℕ) (ls : List Lit) → all_clauses m (map (λ l. defined d ∷ opposite l ∷ []) ls) ≡ m.table (Def d) || not (some_lit m ls)
+disj_members : (m : Interpretation) (d : ℕ) (ls : List Lit)
+    → all_clauses m (map (λ l. defined d ∷ opposite l ∷ []) ls) ≡ m.table (Def d) || not (some_lit m ls)
 disj_members m d [] = or_true (m.table (Def d))
 disj_members m d (l ∷ ls) =
     ap (λ b. (m.table (Def d) || (lit_truth m (opposite l) || false)) && b) (disj_members m d ls)
@@ -151,7 +159,8 @@ disj_last true false = refl
 disj_last false true = refl
 disj_last false false = refl
 
-pub disj_clauses : (m : Interpretation) (d : ℕ) (ls : List Lit) → all_clauses m (disjunction_clauses d ls) ≡ agree (m.table (Def d)) (some_lit m ls)
+pub disj_clauses : (m : Interpretation) (d : ℕ) (ls : List Lit)
+    → all_clauses m (disjunction_clauses d ls) ≡ agree (m.table (Def d)) (some_lit m ls)
 disj_clauses m d ls =
     all_append m (map (λ l. defined d ∷ opposite l ∷ []) ls) ((opposite (defined d) ∷ ls) ∷ [])
     ∙ ap (λ b. b && ((not (m.table (Def d)) || some_lit m ls) && true)) (disj_members m d ls)
@@ -159,7 +168,9 @@ disj_clauses m d ls =
 
 -- a definition of an equivalence
 equiv_cases : (d l k : Bool) →
-    (not d || (not l || (k || false))) && ((not d || (l || (not k || false))) && ((d || (l || (k || false))) && ((d || (not l || (not k || false))) && true)))
+    (not d || (not l || (k || false)))
+    && ((not d || (l || (not k || false)))
+    && ((d || (l || (k || false))) && ((d || (not l || (not k || false))) && true)))
     ≡ agree d (agree l k)
 equiv_cases true true true = refl
 equiv_cases true true false = refl
@@ -171,10 +182,13 @@ equiv_cases false false true = refl
 equiv_cases false false false = refl
 
 equiv_bools : (d l k l' k' : Bool) → l' ≡ not l → k' ≡ not k →
-    (not d || (l' || (k || false))) && ((not d || (l || (k' || false))) && ((d || (l || (k || false))) && ((d || (l' || (k' || false))) && true)))
+    (not d || (l' || (k || false)))
+    && ((not d || (l || (k' || false))) && ((d || (l || (k || false))) && ((d || (l' || (k' || false))) && true)))
     ≡ agree d (agree l k)
 equiv_bools d l k l' k' e f = rw (e, f) (equiv_cases d l k)
 
-pub equiv_clauses : (m : Interpretation) (d : ℕ) (l k : Lit) → all_clauses m (equivalence_clauses d l k) ≡ agree (m.table (Def d)) (agree (lit_truth m l) (lit_truth m k))
+pub equiv_clauses : (m : Interpretation) (d : ℕ) (l k : Lit)
+    → all_clauses m (equivalence_clauses d l k) ≡ agree (m.table (Def d)) (agree (lit_truth m l) (lit_truth m k))
 equiv_clauses m d l k =
-    equiv_bools (m.table (Def d)) (lit_truth m l) (lit_truth m k) (lit_truth m (opposite l)) (lit_truth m (opposite k)) (truth_of_opposite m l) (truth_of_opposite m k)
+    equiv_bools (m.table (Def d)) (lit_truth m l) (lit_truth m k) (lit_truth m (opposite l)) (lit_truth m (opposite k))
+    (truth_of_opposite m l) (truth_of_opposite m k)

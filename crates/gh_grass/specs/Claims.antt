@@ -9,49 +9,49 @@ use Rattle.gh_grass.specs.declared.formula.Formula.TheOpen.{Formula-F}
 use Rattle.gh_grass.specs.declared.formula.Formula.TheFolds.{fold-Formula}
 
 mutual
-  pub data GroundClaim : Type 0 where
-    atom : Atom → GroundClaim
-    negation_of : GroundClaim → GroundClaim
-    conjunction_of : GroundClaims → GroundClaim
-    disjunction_of : GroundClaims → GroundClaim
-    equivalence_of : GroundClaim → GroundClaim → GroundClaim
+  pub data GroundFormula : Type 0 where
+    atom : Atom → GroundFormula
+    negation_of : GroundFormula → GroundFormula
+    conjunction_of : GroundFormulas → GroundFormula
+    disjunction_of : GroundFormulas → GroundFormula
+    equivalence_of : GroundFormula → GroundFormula → GroundFormula
 
-  pub data GroundClaims : Type 0 where
-    no_claims : GroundClaims
-    claim_first : GroundClaim → GroundClaims → GroundClaims
+  pub data GroundFormulas : Type 0 where
+    no_ground_formulas : GroundFormulas
+    ground_formula_first : GroundFormula → GroundFormulas → GroundFormulas
 
-abbrev pub claims_of : List GroundClaim → GroundClaims
-claims_of [] = no_claims
-claims_of (f ∷ fs) = claim_first f (claims_of fs)
+abbrev pub ground_formulas_of : List GroundFormula → GroundFormulas
+ground_formulas_of [] = no_ground_formulas
+ground_formulas_of (f ∷ fs) = ground_formula_first f (ground_formulas_of fs)
 
-abbrev pub claim_step : Formula-F GroundClaim → GroundClaim
-claim_step (Formula-F.Atom a) = atom a
-claim_step (Formula-F.Not b) = negation_of b.value
-claim_step (Formula-F.And v) = conjunction_of (claims_of v.items)
-claim_step (Formula-F.Or v) = disjunction_of (claims_of v.items)
-claim_step (Formula-F.Iff b c) = equivalence_of b.value c.value
+abbrev pub ground_formula_step : Formula-F GroundFormula → GroundFormula
+ground_formula_step (Formula-F.Atom a) = atom a
+ground_formula_step (Formula-F.Not b) = negation_of b.value
+ground_formula_step (Formula-F.And v) = conjunction_of (ground_formulas_of v.items)
+ground_formula_step (Formula-F.Or v) = disjunction_of (ground_formulas_of v.items)
+ground_formula_step (Formula-F.Iff b c) = equivalence_of b.value c.value
 
-abbrev pub claim_of : Formula → GroundClaim
-claim_of = fold-Formula GroundClaim claim_step
+abbrev pub ground_formula_of : Formula → GroundFormula
+ground_formula_of = fold-Formula GroundFormula ground_formula_step
 
-abbrev pub claims_list : List Formula → List GroundClaim
-claims_list fs = map claim_of fs
+abbrev pub ground_formula_list : List Formula → List GroundFormula
+ground_formula_list fs = map ground_formula_of fs
 
-abbrev pub claims_view : List Formula → GroundClaims
-claims_view fs = claims_of (claims_list fs)
+abbrev pub ground_formulas_view : List Formula → GroundFormulas
+ground_formulas_view fs = ground_formulas_of (ground_formula_list fs)
 
 -- all of them; the empty list is true
-abbrev pub all_of : List GroundClaim → GroundClaim
-all_of fs = conjunction_of (claims_of fs)
+abbrev pub all_of : List GroundFormula → GroundFormula
+all_of fs = conjunction_of (ground_formulas_of fs)
 
 -- one of them; the empty list is false
-abbrev pub one_of : List GroundClaim → GroundClaim
-one_of fs = disjunction_of (claims_of fs)
+abbrev pub one_of : List GroundFormula → GroundFormula
+one_of fs = disjunction_of (ground_formulas_of fs)
 
 -- two terms are equal
-abbrev pub equality : Term → Term → GroundClaim
+abbrev pub equality : Term → Term → GroundFormula
 equality a b = atom (equation a b)
 
 -- claims were added to those of some formulas
-abbrev pub AddsClaims : Vec Formula Global → Vec Formula Global → List GroundClaim → Type 0
-AddsClaims old new added = claims_list new.items ≡ claims_list old.items ++ added
+abbrev pub AddsFormulas : Vec Formula Global → Vec Formula Global → List GroundFormula → Type 0
+AddsFormulas old new added = ground_formula_list new.items ≡ ground_formula_list old.items ++ added

@@ -3,8 +3,8 @@ use Rattle.std.specs.Prelude.{ℕ, ◌+◌, List, [], ◌∷◌, ◌++◌, map}
 use Rattle.gh_base.specs.declared.atom.Atom.TheVariants.{Def}
 use Rattle.gh_base.specs.declared.atom.Lit.{Lit}
 use Rattle.gh_base.specs.Atoms.{opposite, positive}
-use Rattle.gh_grass.specs.Claims.{GroundClaim, atom, negation_of, conjunction_of, disjunction_of, equivalence_of, GroundClaims}
-use Rattle.gh_grass.specs.Claims.{no_claims, claim_first}
+use Rattle.gh_grass.specs.Claims.{GroundFormula, atom, negation_of, conjunction_of, disjunction_of, equivalence_of}
+use Rattle.gh_grass.specs.Claims.{GroundFormulas, no_ground_formulas, ground_formula_first}
 
 -- the literal of the definition d
 abbrev pub defined : ℕ → Lit
@@ -41,13 +41,25 @@ equivalence_clauses d l m =
 
 -- the conjunction of some formulas, defined with the next number
 abbrev pub conjoined : AllMade → Made
-conjoined s = record { lit = defined s.next; next = s.next + 1; clauses = s.clauses ++ conjunction_clauses s.next s.lits }
+conjoined s = record {
+  lit = defined s.next;
+  next = s.next + 1;
+  clauses = s.clauses ++ conjunction_clauses s.next s.lits;
+}
 
 abbrev pub disjoined : AllMade → Made
-disjoined s = record { lit = defined s.next; next = s.next + 1; clauses = s.clauses ++ disjunction_clauses s.next s.lits }
+disjoined s = record {
+  lit = defined s.next;
+  next = s.next + 1;
+  clauses = s.clauses ++ disjunction_clauses s.next s.lits;
+}
 
 abbrev pub equated : Made → Made → Made
-equated r s = record { lit = defined s.next; next = s.next + 1; clauses = (r.clauses ++ s.clauses) ++ equivalence_clauses s.next r.lit s.lit }
+equated r s = record {
+  lit = defined s.next;
+  next = s.next + 1;
+  clauses = (r.clauses ++ s.clauses) ++ equivalence_clauses s.next r.lit s.lit;
+}
 
 -- a formula before others that were made after it
 abbrev pub put_first : Made → AllMade → AllMade
@@ -55,34 +67,34 @@ put_first r s = record { lits = r.lit ∷ s.lits; next = s.next; clauses = r.cla
 
 -- what is made of a formula, where d is the next free number of a definition
 abbrev mutual
-  pub made : GroundClaim → ℕ → Made
+  pub made : GroundFormula → ℕ → Made
   made (atom a) d = record { lit = positive a; next = d; clauses = [] }
   made (negation_of f) d = let r = made f d in record { lit = opposite r.lit; next = r.next; clauses = r.clauses }
   made (conjunction_of fs) d = conjoined (all_made fs d)
   made (disjunction_of fs) d = disjoined (all_made fs d)
   made (equivalence_of f g) d = let r = made f d in equated r (made g r.next)
 
-  pub all_made : GroundClaims → ℕ → AllMade
-  all_made no_claims d = record { lits = []; next = d; clauses = [] }
-  all_made (claim_first f fs) d = let r = made f d in put_first r (all_made fs r.next)
+  pub all_made : GroundFormulas → ℕ → AllMade
+  all_made no_ground_formulas d = record { lits = []; next = d; clauses = [] }
+  all_made (ground_formula_first f fs) d = let r = made f d in put_first r (all_made fs r.next)
 
 -- the formula's definitions, and that it is true
 abbrev pub stated : Made → List (List Lit)
 stated r = r.clauses ++ (r.lit ∷ []) ∷ []
 
 -- the next free number after some formulas
-abbrev pub next_after : List GroundClaim → ℕ → ℕ
+abbrev pub next_after : List GroundFormula → ℕ → ℕ
 next_after [] d = d
 next_after (f ∷ fs) d = next_after fs (made f d).next
 
 -- the clauses of some formulas, one after the other
-abbrev pub clauses_from : List GroundClaim → ℕ → List (List Lit)
+abbrev pub clauses_from : List GroundFormula → ℕ → List (List Lit)
 clauses_from [] d = []
 clauses_from (f ∷ fs) d = let r = made f d in stated r ++ clauses_from fs r.next
 
 -- the clauses of a list of formulas, and how many definitions they have
-abbrev pub clauses_of : List GroundClaim → List (List Lit)
+abbrev pub clauses_of : List GroundFormula → List (List Lit)
 clauses_of fs = clauses_from fs 0
 
-abbrev pub definitions_of : List GroundClaim → ℕ
+abbrev pub definitions_of : List GroundFormula → ℕ
 definitions_of fs = next_after fs 0

@@ -1,7 +1,7 @@
 //! The formulas of an assertion: which terms are in its footprint, and that some part of the heap meets it.
 
 ghost use Rattle.std.specs.Prelude.{◌≡◌, IfOk, OnOk};
-ghost use Rattle.gh_grass.specs.Claims.{claim_of, claims_list, AddsClaims};
+ghost use Rattle.gh_grass.specs.Claims.{ground_formula_of, ground_formula_list, AddsFormulas};
 ghost use Rattle.gh_grass.specs.Footprints.{before_end, all_apart_of, apart_from, apart_here_of, apart_of};
 ghost use Rattle.gh_grass.specs.Footprints.{footprint_of, footprints_of, leads_to_of, structure_of, structures_of};
 
@@ -21,7 +21,7 @@ fn segment_footprint(
     z: Term,
     y: Term,
 ) -> Result<Formula, AllocError>
-    ensures { IfOk result (λ f. claim_of f ≡ before_end version x z y) }
+    ensures { IfOk result (λ f. ground_formula_of f ≡ before_end version x z y) }
 {
     let between = Formula::Atom(Atom::Btwn {
         version,
@@ -44,7 +44,7 @@ pub fn footprint_at(
     version: u8,
     z: Term,
 ) -> Result<Formula, AllocError>
-    ensures { IfOk result (λ f. claim_of f ≡ footprint_of binding.now version z assertion.now) }
+    ensures { IfOk result (λ f. ground_formula_of f ≡ footprint_of binding.now version z assertion.now) }
 {
     match assertion {
         Assertion::Emp => Ok(Formula::Or(Vec::new(alloc))),
@@ -76,7 +76,7 @@ fn footprints_at(
     version: u8,
     z: Term,
 ) -> Result<Vec<Formula>, AllocError>
-    ensures { IfOk result (λ fs. claims_list fs.items ≡ footprints_of binding.now version z assertions.now) }
+    ensures { IfOk result (λ fs. ground_formula_list fs.items ≡ footprints_of binding.now version z assertions.now) }
 {
     let mut formulas = Vec::new(alloc);
     for assertion in assertions {
@@ -101,7 +101,7 @@ fn apart_at(
     second: &Assertion,
     z: Term,
 ) -> Result<Formula, AllocError>
-    ensures { IfOk result (λ f. claim_of f ≡ apart_here_of under.entry first.now second.now z) }
+    ensures { IfOk result (λ f. ground_formula_of f ≡ apart_here_of under.entry first.now second.now z) }
 {
     let one = footprint_at(alloc, first, under.binding, under.version, z)?;
     let other = footprint_at(alloc, second, under.binding, under.version, z)?;
@@ -116,7 +116,7 @@ fn push_apart(
     second: &Assertion,
     formulas: &mut Vec<Formula>,
 ) -> Result<(), AllocError>
-    ensures { OnOk result (AddsClaims formulas.old formulas.new (apart_of under.entry first.now second.now)) }
+    ensures { OnOk result (AddsFormulas formulas.old formulas.new (apart_of under.entry first.now second.now)) }
 {
     for z in 0..under.terms {
         formulas.push(apart_at(alloc, under, first, second, Term(z))?)?;
@@ -132,7 +132,7 @@ fn push_apart_from(
     others: &[Assertion],
     formulas: &mut Vec<Formula>,
 ) -> Result<(), AllocError>
-    ensures { OnOk result (AddsClaims formulas.old formulas.new (apart_from under.entry first.now others.now)) }
+    ensures { OnOk result (AddsFormulas formulas.old formulas.new (apart_from under.entry first.now others.now)) }
 {
     for second in others {
         push_apart(alloc, under, first, second, formulas)?;
@@ -147,7 +147,7 @@ fn push_all_apart(
     members: &[Assertion],
     formulas: &mut Vec<Formula>,
 ) -> Result<(), AllocError>
-    ensures { OnOk result (AddsClaims formulas.old formulas.new (all_apart_of under.entry members.now)) }
+    ensures { OnOk result (AddsFormulas formulas.old formulas.new (all_apart_of under.entry members.now)) }
 {
     for (i, first) in members.iter().enumerate() {
         let others = &members[i + 1..];
@@ -165,7 +165,7 @@ fn points_to(
     version: u8,
     terms: &TermList,
 ) -> Result<Formula, AllocError>
-    ensures { IfOk result (λ f. claim_of f ≡ leads_to_of binding.now terms.now version at.now to.now) }
+    ensures { IfOk result (λ f. ground_formula_of f ≡ leads_to_of binding.now terms.now version at.now to.now) }
 {
     let x = variable_term(binding, at);
     let next = terms.next(version, x).unwrap_or(Term(0));
@@ -184,7 +184,7 @@ pub fn structure_of(
     version: u8,
     terms: &TermList,
 ) -> Result<Formula, AllocError>
-    ensures { IfOk result (λ f. claim_of f ≡ structure_of binding.now terms.now version assertion.now) }
+    ensures { IfOk result (λ f. ground_formula_of f ≡ structure_of binding.now terms.now version assertion.now) }
 {
     match assertion {
         Assertion::Emp => Ok(Formula::And(Vec::new(alloc))),
@@ -234,7 +234,7 @@ fn structures_of(
     version: u8,
     terms: &TermList,
 ) -> Result<Vec<Formula>, AllocError>
-    ensures { IfOk result (λ fs. claims_list fs.items ≡ structures_of binding.now terms.now version assertions.now) }
+    ensures { IfOk result (λ fs. ground_formula_list fs.items ≡ structures_of binding.now terms.now version assertions.now) }
 {
     let mut formulas = Vec::new(alloc);
     for assertion in assertions {

@@ -1,9 +1,9 @@
 //! The formulas of comparisons and tests under a binding.
 
 ghost use Rattle.std.specs.Prelude.{◌≡◌, IfOk};
-ghost use Rattle.gh_ast.specs.Plain.{test_of, tests_view};
+ghost use Rattle.gh_ast.specs.Plain.{cond_of, conds_view};
 ghost use Rattle.gh_grass.specs.Bindings.{bound_term};
-ghost use Rattle.gh_grass.specs.Claims.{claim_of, claims_list};
+ghost use Rattle.gh_grass.specs.Claims.{ground_formula_of, ground_formula_list};
 ghost use Rattle.gh_grass.specs.Footprints.{operand_term, plain_term, compared, tested, all_tested, by_test_of};
 
 use crate::binding::Binding;
@@ -46,7 +46,7 @@ pub fn comparison(
     equal: bool,
     right: Term,
 ) -> Result<Formula, AllocError>
-    ensures { IfOk result (λ f. claim_of f ≡ compared left equal right) }
+    ensures { IfOk result (λ f. ground_formula_of f ≡ compared left equal right) }
 {
     let formula = Formula::equal(left, right);
     if equal {
@@ -59,7 +59,7 @@ pub fn comparison(
 /// The formula of a test.
 #[cycle(any_test)]
 pub fn test_formula(alloc: Global, test: &Cond, binding: &Binding) -> Result<Formula, AllocError>
-    ensures { IfOk result (λ f. claim_of f ≡ tested (bound_term binding.now) (test_of test.now)) }
+    ensures { IfOk result (λ f. ground_formula_of f ≡ tested (bound_term binding.now) (cond_of test.now)) }
 {
     match test {
         Cond::Compare { left, equal, right } => {
@@ -79,7 +79,7 @@ fn test_formulas(
     tests: &[Cond],
     binding: &Binding,
 ) -> Result<Vec<Formula>, AllocError>
-    ensures { IfOk result (λ fs. claims_list fs.items ≡ all_tested (bound_term binding.now) (tests_view tests.now)) }
+    ensures { IfOk result (λ fs. ground_formula_list fs.items ≡ all_tested (bound_term binding.now) (conds_view tests.now)) }
 {
     let mut formulas = Vec::new(alloc);
     for test in tests {
@@ -96,7 +96,7 @@ pub fn cases(
     taken: Formula,
     otherwise: Formula,
 ) -> Result<Formula, AllocError>
-    ensures { IfOk result (λ f. claim_of f ≡ by_test_of binding.now test.now (claim_of taken) (claim_of otherwise)) }
+    ensures { IfOk result (λ f. ground_formula_of f ≡ by_test_of binding.now test.now (ground_formula_of taken) (ground_formula_of otherwise)) }
 {
     let first = test_formula(alloc, test, binding)?.and(alloc, taken)?;
     let fails = test_formula(alloc, test, binding)?.negated(alloc)?;

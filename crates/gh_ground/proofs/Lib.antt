@@ -1,8 +1,10 @@
+pub mod CheckedLemmas
 pub mod ConflictLemmas
 pub mod ClassLemmas
 pub mod GivenLemmas
 pub mod OpenLemmas
 pub mod KeptLemmas
 pub mod MissingLemmas
+pub mod ProposalLemmas
 pub mod TrimLemmas
 pub mod SpelledLemmas

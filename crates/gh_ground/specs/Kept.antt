@@ -16,7 +16,7 @@ use Rattle.gh_ground.specs.declared.solver.Turn.{Turn}
 use Rattle.gh_ground.specs.declared.solver.Turn.TheVariants.{Ended, Answered}
 use Rattle.gh_ground.specs.Solving.{IsModelOf, RefutesProblem}
 use Rattle.gh_sat.specs.Learn.{IsConflictAt}
-use Rattle.gh_sat.specs.Status.{IsSettled, AreAssigned}
+use Rattle.gh_sat.specs.Status.{IsSettled, AreSatisfied}
 use Rattle.gh_sat.specs.Theory.{lits_of, HasNoConflict, PropagatesBeside}
 use Rattle.gh_sat.specs.Trail.{SearchState, IsSound}
 
@@ -31,7 +31,8 @@ pub record HasLineEach (p : Problem) (s : SearchState) (lines : List LogLine) : 
   pub ground : (c : List Lit) → Contains p.clauses c → Contains s.clauses c
 
 -- lines were added, and what was kept is
-pub record KeepsLines (old : SearchState) (before : List LogLine) (new : SearchState) (after : List LogLine) : Type 0 where
+pub record KeepsLines (old : SearchState) (before : List LogLine) (new : SearchState)
+    (after : List LogLine) : Type 0 where
   pub keeps : (p : Problem) → HasLineEach p old before → HasLineEach p new after
   pub more : List LogLine
   pub longer : after ≡ before ++ more
@@ -48,12 +49,11 @@ pub record IsAnswered (s : SearchState) (answer : Option ℕ) : Type 0 where
   pub consistent : IfNone answer (HasNoConflict (IsEqualityClause s.sizes) s.trail)
   pub known : IfNone answer (IsConsistent s.sizes (lits_of s.trail))
 
--- all atoms of clauses have a truth, and no clause is false, nor one of equality
+-- each clause has a true literal, and the trail is consistent with equality and congruence
 pub record IsUndecided (s : SearchState) : Type 0 where
   pub sound : IsSound s
-  pub settled : IsSettled s
   pub known : IsConsistent s.sizes (lits_of s.trail)
-  pub assigned : AreAssigned s
+  pub satisfied : AreSatisfied s
 
 -- the clause of number k is false at level 0
 pub record IsFalseAtLevelZero (s : SearchState) (k : ℕ) : Type 0 where

@@ -65,11 +65,13 @@ IsLike b s cs a = normal (class_at cs) b ≡ normal (class_at cs) a
 pub record MakesTrue (P : Sort) (old new : Tables) : Type 0 where
   pub sizes : new.sizes ≡ old.sizes
   pub classes : new.classes ≡ old.classes
-  pub truths : (a : Atom) → IsRelation a → IsInRange old.sizes a → (truth_in new a ≡ true) ↔ ((truth_in old a ≡ true) ⊎ P old.sizes old.classes a)
+  pub truths : (a : Atom) → IsRelation a → IsInRange old.sizes a
+      → (truth_in new a ≡ true) ↔ ((truth_in old a ≡ true) ⊎ P old.sizes old.classes a)
 
 -- just those atoms are true that the literals give
 abbrev pub AreGiven : List Lit → Tables → Type 0
-AreGiven lits t = (a : Atom) → IsRelation a → IsInRange t.sizes a → (truth_in t a ≡ true) ↔ IsGiven (interpretation_of t) lits a
+AreGiven lits t =
+    (a : Atom) → IsRelation a → IsInRange t.sizes a → (truth_in t a ≡ true) ↔ IsGiven (interpretation_of t) lits a
 
 -- only truths were written
 pub record KeepsClasses (old new : Tables) : Type 0 where

@@ -1,8 +1,11 @@
 -- What a decision of ground clauses answers.
 use Rattle.std.specs.Prelude.{◌≡◌, ◌+◌, ◌<◌, ◌≤◌, ⊤, ℕ, List, [], Some, All, Contains, length, slice_get}
+use Rattle.gh_base.specs.declared.atom.Lit.{Lit}
+use Rattle.gh_base.specs.Atoms.{AreInRange}
 use Rattle.gh_base.specs.Grounds.{Problem}
-use Rattle.gh_base.specs.Meaning.{IsClauseTrue, IsCongruence}
+use Rattle.gh_base.specs.Meaning.{Interpretation, IsClauseTrue, IsCongruence}
 use Rattle.gh_base.specs.Structures.{Tables, interpretation_of}
+use Rattle.gh_cc.specs.Partials.{IsStructureOf}
 use Rattle.gh_inst.specs.Violations.{AreInstancesTrue}
 use Rattle.gh_log.specs.Sections.{IsValidSection}
 use Rattle.gh_log.specs.Spelled.{IsOfVersion, IsSpelledLine}
@@ -12,12 +15,19 @@ use Rattle.gh_log.specs.declared.lines.Section.{Section}
 use Rattle.gh_ground.specs.declared.solve.Answer.{Answer}
 use Rattle.gh_ground.specs.declared.solve.Answer.TheVariants.{Model, Refutation}
 
--- the structure has the numbers of the problem and makes its clauses and all axiom instances true, and its equality is a congruence
+-- the structure has the numbers of the problem and makes its clauses and all axiom instances true, and its equality is
+-- a congruence
 pub record IsModelOf (p : Problem) (s : Tables) : Type 0 where
   pub sizes : s.sizes ≡ p.sizes
   pub clauses : All (IsClauseTrue (interpretation_of s)) p.clauses
   pub instances : AreInstancesTrue p.sizes (interpretation_of s)
   pub congruence : IsCongruence p.sizes (interpretation_of s)
+
+-- the literals are in range, and each structure of theirs makes the problem's clauses and all axiom instances true
+pub record MakeModel (p : Problem) (lits : List Lit) : Type 0 where
+  pub range : AreInRange p.sizes lits
+  pub clauses : (m : Interpretation) → IsStructureOf p.sizes lits m → All (IsClauseTrue m) p.clauses
+  pub instances : (m : Interpretation) → IsStructureOf p.sizes lits m → AreInstancesTrue p.sizes m
 
 -- a byte counts the terms and the versions, and 32 bits count the definitions and the clauses
 pub record FitsTypes (p : Problem) : Type 0 where
@@ -52,7 +62,8 @@ pub record IsHintLater (lines : List LogLine) (k : ℕ) : Type 0 where
 abbrev pub IsTrimmed : List LogLine → Type 0
 IsTrimmed lines = (k : ℕ) → k + 1 < length lines → IsHintLater lines k
 
--- the section is valid for the problem, is of version 2 without deletions and stands at the first line, and 32 bits number
+-- the section is valid for the problem, is of version 2 without deletions and stands at the first line, and 32 bits
+-- number
 -- its lines and the place after them; it may have lines that nothing later needs
 pub record RefutesProblem (p : Problem) (s : Section) : Type 0 where
   pub valid : IsValidSection p s.lines

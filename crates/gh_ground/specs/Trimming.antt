@@ -19,7 +19,8 @@ AreHintsKept kept place l = AreKeptBefore kept place (hints_of l)
 
 -- the only lines that are newly kept are earlier ones at some positions
 abbrev pub KeepsOnly : List Bool → List Bool → ℕ → List ℕ → Type 0
-KeepsOnly old new place positions = (k : ℕ) → IsKeptAt new k → IsKeptAt old k ⊎ ((k < place) × Contains positions (k + 1))
+KeepsOnly old new place positions =
+    (k : ℕ) → IsKeptAt new k → IsKeptAt old k ⊎ ((k < place) × Contains positions (k + 1))
 
 -- a later line that is kept has the position of the line at a place as a hint
 pub record IsHintOfKept (lines : List LogLine) (kept : List Bool) (k : ℕ) : Type 0 where
@@ -34,7 +35,8 @@ pub record IsHintOfKept (lines : List LogLine) (kept : List Bool) (k : ℕ) : Ty
 pub record AreNeeded (lines : List LogLine) (kept : List Bool) (from : ℕ) : Type 0 where
   pub long : length kept ≡ length lines
   pub last : (k : ℕ) → length lines ≡ k + 1 → IsKeptAt kept k
-  pub hints : (i : ℕ) (l : LogLine) → from ≤ i → slice_get lines i ≡ Some l → IsKeptAt kept i → AreKeptBefore kept i (hints_of l)
+  pub hints : (i : ℕ) (l : LogLine) → from ≤ i → slice_get lines i ≡ Some l → IsKeptAt kept i
+      → AreKeptBefore kept i (hints_of l)
   pub only : (k : ℕ) → IsKeptAt kept k → (length lines ≡ k + 1) ⊎ IsHintOfKept lines kept k
 
 -- the same line, with its hints moved by a table of new positions; deletions aren't kept

@@ -5,12 +5,10 @@ ghost use Rattle.gh_base.specs.declared.sizes.Sizes.{Sizes};
 ghost use Rattle.gh_base.specs.Atoms.{IsInRange, AreInRange};
 ghost use Rattle.gh_cc.specs.Asserted.{equality};
 ghost use Rattle.gh_cc.specs.Partitions.{moved};
-ghost use Rattle.gh_sat.specs.Theory.{lits_of};
 ghost use Rattle.gh_ground.specs.Making.{AreClassesOf, TakesIn};
 
 use gh_base::atom::{Atom, Lit, Term};
 use gh_base::sizes::Sizes;
-use gh_sat::trail::Step;
 use std::alloc::{AllocError, Global};
 
 // The new one of two terms in the place of the old one.
@@ -69,18 +67,14 @@ fn take_in(classes: &mut Vec<Term>, lit: Lit)
     }
 }
 
-/// The class of each term, which is its least one, after the equalities of a trail.
-pub(crate) fn classes_of(
-    alloc: Global,
-    sizes: Sizes,
-    steps: &[Step],
-) -> Result<Vec<Term>, AllocError>
-    requires { AreInRange sizes (lits_of steps.now) }
-    ensures { IfOk result (λ v. AreClassesOf sizes.terms (lits_of steps.now) v.items) }
+/// The class of each term, which is its least one, by the equalities among some literals.
+pub(crate) fn classes_of(alloc: Global, sizes: Sizes, lits: &[Lit]) -> Result<Vec<Term>, AllocError>
+    requires { AreInRange sizes lits.now }
+    ensures { IfOk result (λ v. AreClassesOf sizes.terms lits.now v.items) }
 {
     let mut classes = alone(alloc, sizes.terms)?;
-    for step in steps {
-        take_in(&mut classes, step.lit);
+    for lit in lits {
+        take_in(&mut classes, *lit);
     }
     Ok(classes)
 }

@@ -1,6 +1,6 @@
 //! Sections that a search proposes, and whether they refute.
 
-ghost use Rattle.std.specs.Prelude.{All, IfOk, IsTrue};
+ghost use Rattle.std.specs.Prelude.{◌↔◌, All, IfOk, IsTrue};
 ghost use Rattle.gh_log.specs.Tables.{line_of};
 ghost use Rattle.gh_ground.specs.Solving.{IsPlain, RefutesProblem};
 
@@ -12,7 +12,7 @@ use std::alloc::{AllocError, Global};
 
 // Whether a line is of version 2 and deletes no others.
 fn is_plain(line: LogLine<'_>) -> bool
-    ensures { IsTrue result → IsPlain (line_of line.entry) }
+    ensures { IsTrue result ↔ IsPlain (line_of line.entry) }
 {
     match line {
         LogLine::Axiom(_) => true,
@@ -26,7 +26,7 @@ fn is_plain(line: LogLine<'_>) -> bool
 
 // Whether all lines are so.
 fn are_plain(lines: &Lines) -> bool
-    ensures { IsTrue result → All IsPlain lines.now }
+    ensures { IsTrue result ↔ All IsPlain lines.now }
 {
     for place in 0..lines.len() {
         if !is_plain(lines.line(place)) {
@@ -36,9 +36,10 @@ fn are_plain(lines: &Lines) -> bool
     true
 }
 
-/// Whether a section refutes ground clauses, where each of its lines is of its kind and none deletes others.
+/// Whether a section refutes ground clauses: it is valid for them, stands at the first line, and its lines are of version
+/// 2 and delete none.
 pub(crate) fn refutes(alloc: Global, ground: &Ground, section: &Section) -> Result<bool, AllocError>
-    ensures { IfOk result (λ b. IsTrue b → RefutesProblem ground.now section.now) }
+    ensures { IfOk result (λ b. IsTrue b ↔ RefutesProblem ground.now section.now) }
 {
     if section.first != 1 {
         return Ok(false);

@@ -1,11 +1,13 @@
 //! The decision of ground clauses.
 
-ghost use Rattle.std.specs.Prelude.{◌≤◌, IfOk, OnOk};
+ghost use Rattle.std.specs.Prelude.{◌≤◌, IfOk, IfSome, OnOk};
 ghost use Rattle.gh_cc.specs.Fields.{most_filed};
 ghost use Rattle.gh_base.specs.Atoms.{count_of};
 ghost use Rattle.gh_ground.specs.Kept.{HasLineEach, IsFalseAtLevelZero};
-ghost use Rattle.gh_ground.specs.Solving.{IsAnswer, IsRefutationOf};
+ghost use Rattle.gh_ground.specs.Solving.{IsAnswer, IsModelOf, IsRefutationOf};
 
+use crate::checked::checked_model;
+use crate::definitions::with_definitions;
 use crate::proposal::refutes;
 use crate::solver::{Outcome, Solver};
 use crate::trim::trim;
@@ -54,18 +56,64 @@ fn answer_of(alloc: Global, ground: &Ground, solver: &mut Solver) -> Result<Answ
     }
 }
 
-// Decides by a search that tries the literals' truths first.
-fn search_from(alloc: Global, ground: &Ground, truths: &[Lit]) -> Result<Answer, AllocError>
+/// Decides ground clauses together with all axiom instances by this crate's own search alone.
+///
+/// More atoms than `MOST_FILED`, and more clauses than `MOST_CLAUSES` with those that are learnt, are answered as out
+/// of memory.
+pub fn solve_alone(alloc: Global, ground: &Ground) -> Result<Answer, AllocError>
     ensures answer { IfOk result (λ answer. IsAnswer ground.now answer) }
     ensures few { OnOk result (count_of ground.now.sizes ≤ most_filed) }
 {
-    let mut solver = Solver::new(alloc, ground, truths)?;
+    let mut solver = Solver::new(alloc, ground)?;
     answer_of(alloc, ground, &mut solver)
 }
 
-/// Decides ground clauses together with all axiom instances. A search whose answers are checked (`gh_seek`) is asked
-/// first: a section that it finds is the answer where it refutes them, without the lines that nothing needs, and truths
-/// that it finds are tried first in this crate's own search, which decides where nothing is found that holds.
+// The structure of truths that a search without contracts proposes, if it is a model.
+fn proposed_model(
+    alloc: Global,
+    ground: &Ground,
+    truths: &[Lit],
+) -> Result<Option<Structure>, AllocError>
+    ensures { IfOk result (λ o. IfSome o (IsModelOf ground.now)) }
+{
+    let lits = with_definitions(alloc, ground, truths)?;
+    Ok(checked_model(alloc, ground, lits.as_slice())?)
+}
+
+// The answer that a search without contracts proposes, if it holds.
+fn proposed_answer(
+    alloc: Global,
+    ground: &Ground,
+    found: Found,
+) -> Result<Option<Answer>, AllocError>
+    ensures { IfOk result (λ o. IfSome o (IsAnswer ground.now)) }
+{
+    match found {
+        Found::Refutation(section) => {
+            if refutes(alloc, ground, &section)? {
+                return Ok(Some(Answer::Refutation(trim(alloc, ground, section)?)));
+            }
+            Ok(None)
+        }
+        Found::Truths(truths) => match proposed_model(alloc, ground, truths.as_slice())? {
+            Some(structure) => Ok(Some(Answer::Model(structure))),
+            None => Ok(None),
+        },
+        Found::Nothing => Ok(None),
+    }
+}
+
+// What a search without contracts finds; nothing where it has too little memory.
+fn proposal(alloc: Global, ground: &Ground, known: &mut Known) -> Found {
+    match seek(alloc, ground, known) {
+        Ok(found) => found,
+        Err(_error) => Found::Nothing,
+    }
+}
+
+/// Decides ground clauses together with all axiom instances. A search without contracts (`gh_seek`) is asked first: a
+/// section that it finds is the answer where it refutes them, without the lines that nothing needs, and the structure of
+/// truths that it finds where it is a model. Else this crate's own search decides, as [`solve_alone`] does.
 ///
 /// More atoms than `MOST_FILED`, and more clauses than `MOST_CLAUSES` with those that are learnt, are answered as out
 /// of memory.
@@ -85,14 +133,9 @@ pub fn solve_with(alloc: Global, ground: &Ground, known: &mut Known) -> Result<A
     if ground.sizes().count() > MOST_FILED {
         return Err(AllocError);
     }
-    match seek(alloc, ground, known)? {
-        Found::Refutation(section) => {
-            if refutes(alloc, ground, &section)? {
-                return Ok(Answer::Refutation(trim(alloc, ground, section)?));
-            }
-            Ok(search_from(alloc, ground, &[])?)
-        }
-        Found::Truths(truths) => Ok(search_from(alloc, ground, truths.as_slice())?),
-        Found::Nothing => Ok(search_from(alloc, ground, &[])?),
+    let found = proposal(alloc, ground, known);
+    match proposed_answer(alloc, ground, found)? {
+        Some(answer) => Ok(answer),
+        None => Ok(solve_alone(alloc, ground)?),
     }
 }

@@ -11,10 +11,12 @@ ghost use Rattle.gh_inst.specs.Instances.{IsInstance};
 ghost use Rattle.gh_log.specs.Lines.{Axiom};
 ghost use Rattle.gh_log.specs.Sections.{line_clause, AreOfKind};
 ghost use Rattle.gh_log.specs.Spelled.{IsOfVersion};
-ghost use Rattle.gh_ground.specs.Kept.{HasLineEach, KeepsLines, Propagates, IsAnswered, IsUndecided, IsFalseAtLevelZero};
-ghost use Rattle.gh_ground.specs.Kept.{IsEnded, IfAnswered, IfEnded, IsModelOfEach, AddsInstance, IsOutcome, Refutes};
+ghost use Rattle.gh_ground.specs.Kept.{HasLineEach, KeepsLines, Propagates, IsAnswered, IsUndecided};
+ghost use Rattle.gh_ground.specs.Kept.{IsFalseAtLevelZero, IsEnded, IfAnswered, IfEnded, IsModelOfEach, AddsInstance};
+ghost use Rattle.gh_ground.specs.Kept.{IsOutcome, Refutes};
 ghost use Rattle.gh_sat.specs.Learn.{IsConflictAt};
 ghost use Rattle.gh_sat.specs.Measure.{LeavesLess};
+ghost use Rattle.gh_sat.specs.Theory.{lits_of};
 ghost use Rattle.gh_sat.specs.Trail.{IsSound};
 ghost use Rattle.gh_sat.specs.Whole.{GivesLast};
 
@@ -28,6 +30,7 @@ use gh_inst::collecting::false_instances;
 use gh_inst::naming::{InstanceName, instance};
 use gh_log::lines::{Lines, LogLine, Section};
 use gh_sat::search::Search;
+use gh_sat::trail::Step;
 use std::alloc::{AllocError, Global};
 use std::mem;
 
@@ -36,8 +39,6 @@ use std::mem;
 pub(crate) struct Solver {
     search: Search<Congruence>,
     lines: Lines,
-    // A far lesson cuts so many levels and one more.
-    stride: u32,
 }
 
 /// What a search comes to.
@@ -97,38 +98,28 @@ fn positions(alloc: Global, numbers: &[u32]) -> Result<Vec<u32>, AllocError>
     Ok(positions)
 }
 
-// A lesson is far if more levels than these lie between its own and the present one.
-const FAR: u32 = 20;
-
-// The level to cut to after a lesson: its own, or where it is far `stride` and one below the present level, since most
-// of what a long cut undoes is decided again.
-fn cut_level(present: u32, level: u32, stride: u32) -> u32
-    requires { level < present }
-    ensures low { level ≤ result }
-    ensures high { result < present }
+// The literals of a trail.
+fn trail_lits(alloc: Global, steps: &[Step]) -> Result<Vec<Lit>, AllocError>
+    ensures { IfOk result (λ v. v.items ≡ lits_of steps.now) }
 {
-    let least = present - 1 - level;
-    if least < FAR {
-        level
-    } else {
-        present - 1 - stride.min(least)
+    let mut lits = Vec::with_capacity(alloc, steps.len())?;
+    for step in steps {
+        lits.push(step.lit)?;
     }
+    Ok(lits)
 }
 
 impl Solver {
-    /// Nothing is decided yet. The literals' truths are tried first.
-    pub(crate) fn new(alloc: Global, ground: &Ground, truths: &[Lit]) -> Result<Solver, AllocError>
+    /// Nothing is decided yet.
+    pub(crate) fn new(alloc: Global, ground: &Ground) -> Result<Solver, AllocError>
         ensures lines { IfOk result (λ s. HasLineEach ground.now s.search s.lines) }
         ensures few { OnOk result (count_of ground.now.sizes ≤ most_filed) }
     {
         let lines = ground_lines(alloc, ground)?;
-        let theory = Congruence::new(alloc, ground.sizes(), truths)?;
+        let sizes = ground.sizes();
+        let theory = Congruence::new(alloc, sizes.terms, sizes.versions, sizes.defs)?;
         let search = Search::new(alloc, ground, theory)?;
-        Ok(Solver {
-            search,
-            lines,
-            stride: 0,
-        })
+        Ok(Solver { search, lines })
     }
 
     // Propagates, and notes the lemma of a conflict of equality and congruence.
@@ -149,7 +140,7 @@ impl Solver {
         }
     }
 
-    // Decides an atom of a clause that has no truth, if there is one, and propagates.
+    // Decides an atom of a clause that has no true literal, if there is one, and propagates.
     fn decide(&mut self, alloc: Global) -> Result<Turn, AllocError>
         requires { IsAnswered self.old.search None }
         ensures less { IfOk result (λ t. IfAnswered t (λ _. LeavesLess self.old.search self.new.search)) }
@@ -159,15 +150,11 @@ impl Solver {
     {
         match self.search.decide_needed() {
             None => Ok(Turn::Ended),
-            Some(_lit) => {
-                self.stride = 0;
-                Ok(Turn::Answered(self.propagate(alloc)?))
-            }
+            Some(_lit) => Ok(Turn::Answered(self.propagate(alloc)?)),
         }
     }
 
-    // Learns from a false clause, jumps back and propagates. Far lessons with no decision between them cut one level,
-    // then two, six, 22 and so on, so that a row of them soon comes to the level of the last one.
+    // Learns from a false clause, jumps back and propagates.
     fn learn(&mut self, alloc: Global, conflict: u32) -> Result<Option<u32>, AllocError>
         requires sound { IsSound self.old.search }
         requires conflict { IsConflictAt self.old.search conflict }
@@ -177,9 +164,7 @@ impl Solver {
         ensures keeps { OnOk result (KeepsLines self.old.search self.old.lines self.new.search self.new.lines) }
     {
         let learnt = self.search.learn(alloc, conflict)?;
-        self.search
-            .backjump(cut_level(self.search.level(), learnt.level, self.stride));
-        self.stride = self.stride.saturating_mul(4).saturating_add(1);
+        self.search.backjump(learnt.level);
         let hints = positions(alloc, learnt.reasons.as_slice())?;
         self.lines.push(LogLine::Hinted {
             clause: learnt.clause.lits(),
@@ -189,8 +174,8 @@ impl Solver {
         Ok(next)
     }
 
-    // A decision, or a lesson, and then the next answer of `propagate`. The search is over where all atoms of clauses
-    // are assigned, and where the conflict stands at level 0.
+    // A decision, or a lesson, and then the next answer of `propagate`. The search is over where each clause has a true
+    // literal, and where the conflict stands at level 0.
     fn turn(&mut self, alloc: Global, answer: Option<u32>) -> Result<Turn, AllocError>
         requires { IsAnswered self.old.search answer }
         ensures less { IfOk result (λ t. IfAnswered t (λ _. LeavesLess self.old.search self.new.search)) }
@@ -213,8 +198,7 @@ impl Solver {
         }
     }
 
-    // Searches on until all atoms of clauses are assigned without conflict, or a clause is false at level 0, and
-    // answers its number.
+    // Searches on until each clause has a true literal, or one is false at level 0, whose number is answered.
     fn conflict(&mut self, alloc: Global) -> Result<Option<u32>, AllocError>
         ensures ended { IfOk result (IsEnded self.new.search) }
         ensures keeps { OnOk result (KeepsLines self.old.search self.old.lines self.new.search self.new.lines) }
@@ -235,7 +219,8 @@ impl Solver {
         ensures congruence { IfOk result (λ s. IsCongruence self.now.search.sizes (interpretation_of s)) }
     {
         let sizes = self.search.assignment().sizes();
-        let structure = structure_of(alloc, sizes, self.search.steps())?;
+        let lits = trail_lits(alloc, self.search.steps())?;
+        let structure = structure_of(alloc, sizes, lits.as_slice())?;
         Ok(structure)
     }
 

@@ -1,4 +1,4 @@
-//! The structure of what a trail asserts.
+//! The structure of literals.
 
 ghost use Rattle.std.specs.Prelude.{◌≡◌, ◌≤◌, ◌<◌, ◌∷◌, ◌++◌, ◌↔◌, [], IfOk, IsTrue, List};
 ghost use Rattle.gh_base.specs.declared.atom.Atom.TheVariants.{Btwn, Hop, Alloc};
@@ -7,7 +7,6 @@ ghost use Rattle.gh_base.specs.Atoms.{IsInRange, AreInRange};
 ghost use Rattle.gh_base.specs.Structures.{interpretation_of};
 ghost use Rattle.gh_cc.specs.Kept.{IsRelation};
 ghost use Rattle.gh_cc.specs.Partials.{IsStructureOf};
-ghost use Rattle.gh_sat.specs.Theory.{lits_of};
 ghost use Rattle.gh_ground.specs.Making.{AreGiven, MakesTrue, IsAtom, IsOfClass, IsThird, IsSecond, IsTriple, IsLike};
 ghost use Rattle.gh_ground.specs.Making.{KeepsClasses};
 
@@ -15,7 +14,6 @@ use crate::classes::classes_of;
 use gh_base::atom::{Atom, Lit, Term};
 use gh_base::sizes::Sizes;
 use gh_base::structure::Structure;
-use gh_sat::trail::Step;
 use std::alloc::{AllocError, Global};
 
 // Makes an atom true.
@@ -154,22 +152,23 @@ fn take_in(structure: &mut Structure, lit: Lit)
     give_like(structure, lit.atom);
 }
 
-/// The structure of what a trail asserts.
+/// The structure of some literals: terms are equal where equalities among them make them so, and another atom is true
+/// where a positive one is over the same classes.
 pub(crate) fn structure_of(
     alloc: Global,
     sizes: Sizes,
-    steps: &[Step],
+    lits: &[Lit],
 ) -> Result<Structure, AllocError>
-    requires range { AreInRange sizes (lits_of steps.now) }
+    requires range { AreInRange sizes lits.now }
     requires terms { 1 ≤ sizes.terms }
     requires versions { 1 ≤ sizes.versions }
     ensures sizes { IfOk result (λ s. s.sizes ≡ sizes) }
-    ensures structure { IfOk result (λ s. IsStructureOf sizes (lits_of steps.now) (interpretation_of s)) }
+    ensures structure { IfOk result (λ s. IsStructureOf sizes lits.now (interpretation_of s)) }
 {
-    let classes = classes_of(alloc, sizes, steps)?;
+    let classes = classes_of(alloc, sizes, lits)?;
     let mut structure = Structure::new(alloc, classes.as_slice(), sizes.versions, sizes.defs)?;
-    for step in steps {
-        take_in(&mut structure, step.lit);
+    for lit in lits {
+        take_in(&mut structure, *lit);
     }
     Ok(structure)
 }

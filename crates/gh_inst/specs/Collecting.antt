@@ -48,7 +48,8 @@ IsTrueAt r tuple = IsRowTrue (interpretation_of r.structure.now) r.version r.lit
 pub record GathersAt (r : Looked) (all : List (List Term)) (old new : List InstanceName) : Type 0 where
   pub gathers : Gathers r.structure.now.sizes (interpretation_of r.structure.now) old new (All (IsTrueAt r) all)
   pub sound : All (IsTrueAt r) all → new ≡ old
-  pub first : (tuple : List Term) → IsFirstWithout (IsTrueAt r) all tuple → Contains new (name_of r.number r.version tuple)
+  pub first : (tuple : List Term) → IsFirstWithout (IsTrueAt r) all tuple
+      → Contains new (name_of r.number r.version tuple)
 
 -- the row is true at all tuples that begin with some terms, of which there are so many
 abbrev pub IsTrueFrom : Looked → List Term → ℕ → Type 0
@@ -76,12 +77,14 @@ pub record RowHolds (s : Sizes) (m : Interpretation) (version : ℕ) (r : AxiomR
   pub holds : All (IsInstanceTrue m) (map (name_of r.number version) (tuples r.variables s.terms))
 
 -- the first false instance of a row in a version is named, if there is one
-pub record IsNamed (s : Sizes) (m : Interpretation) (version : ℕ) (found : List InstanceName) (r : AxiomRow) : Type 0 where
+pub record IsNamed (s : Sizes) (m : Interpretation) (version : ℕ) (found : List InstanceName)
+    (r : AxiomRow) : Type 0 where
   pub first : (name : InstanceName) → IsFirstWithout (IsInstanceTrue m) (row_in s version r) name → Contains found name
 
 -- .. of the row of a number, in a structure
 abbrev pub IsRowNamed : Tables → ℕ → ℕ → List InstanceName → Type 0
-IsRowNamed s version number found = (r : AxiomRow) → row_with number table ≡ Some r → IsNamed s.sizes (interpretation_of s) version found r
+IsRowNamed s version number found =
+    (r : AxiomRow) → row_with number table ≡ Some r → IsNamed s.sizes (interpretation_of s) version found r
 
 -- false instances were added to a list; where none was added, the row of a number holds in a version
 abbrev pub GathersRow : Tables → ℕ → ℕ → List InstanceName → List InstanceName → Type 0
@@ -110,7 +113,8 @@ pub record VersionHolds (s : Sizes) (m : Interpretation) (version : ℕ) : Type 
 
 -- false instances were added to a list; where none was added, every instance in a version is true
 abbrev pub GathersVersion : Tables → ℕ → List InstanceName → List InstanceName → Type 0
-GathersVersion s version old new = Gathers s.sizes (interpretation_of s) old new (VersionHolds s.sizes (interpretation_of s) version)
+GathersVersion s version old new =
+    Gathers s.sizes (interpretation_of s) old new (VersionHolds s.sizes (interpretation_of s) version)
 
 -- no name is listed twice
 abbrev pub AreDistinct : List InstanceName → Type 0
@@ -121,7 +125,8 @@ abbrev pub place : ℕ → ℕ → ℕ → ℕ → ℕ
 place version number x y = 16777216 * version + 65536 * number + 256 * x + y
 
 abbrev pub place_of : InstanceName → ℕ
-place_of name = place name.version name.row (slice_index_or name.terms 0 (term 0)).0 (slice_index_or name.terms 1 (term 0)).0
+place_of name =
+    place name.version name.row (slice_index_or name.terms 0 (term 0)).0 (slice_index_or name.terms 1 (term 0)).0
 
 -- names in this order, all before a place
 pub record IsUpTo (high : ℕ) (names : List InstanceName) : Type 0 where
@@ -146,4 +151,6 @@ PassesVersion version old new = GoesUp (place version 0 0 0) (place (version + 1
 
 -- at most one name was added, of a tuple of the row that begins with some terms
 abbrev pub AddsOneAt : Looked → List Term → List InstanceName → List InstanceName → Type 0
-AddsOneAt r start old new = (new ≡ old) ⊎ ((rest : List Term) × (length start + length rest ≡ r.variables) × (new ≡ old ++ name_of r.number r.version (start ++ rest) ∷ []))
+AddsOneAt r start old new =
+    (new ≡ old) ⊎ ((rest : List Term) × (length start + length rest ≡ r.variables)
+    × (new ≡ old ++ name_of r.number r.version (start ++ rest) ∷ []))

@@ -14,11 +14,17 @@ use Rattle.gh_inst.specs.Tuples.{tuples}
 -- the name of a row's instance at a tuple: terms past the tuple are term 0
 abbrev pub name_of : ℕ → ℕ → List Term → InstanceName
 name_of number version tuple =
-    record { row = number; version = version; terms = tuple ++ replicate (4 - length tuple) (term 0); arity = length tuple }
+    record {
+      row = number;
+      version = version;
+      terms = tuple ++ replicate (4 - length tuple) (term 0);
+      arity = length tuple;
+    }
 
 -- the instances of a row over n terms and some versions
 abbrev pub row_instances : ℕ → ℕ → AxiomRow → List InstanceName
-row_instances n versions r = flat_map (λ version. map (name_of r.number version) (tuples r.variables n)) (range_with_len 0 versions)
+row_instances n versions r =
+    flat_map (λ version. map (name_of r.number version) (tuples r.variables n)) (range_with_len 0 versions)
 
 -- those in one version
 abbrev pub row_in : Sizes → ℕ → AxiomRow → List InstanceName
@@ -27,7 +33,8 @@ row_in s version r = map (name_of r.number version) (tuples r.variables s.terms)
 -- a name is at a place among the instances of a row
 abbrev pub IsNameInRow : ℕ → ℕ → ℕ → ℕ → ℕ → InstanceName → Type 0
 IsNameInRow number variables n versions place name =
-    (r : AxiomRow) → r.number ≡ number → r.variables ≡ variables → slice_get (row_instances n versions r) place ≡ Some name
+    (r : AxiomRow) → r.number ≡ number → r.variables ≡ variables
+    → slice_get (row_instances n versions r) place ≡ Some name
 
 -- all instances: by row, then by version, then by tuple
 abbrev pub instances : ℕ → ℕ → List InstanceName

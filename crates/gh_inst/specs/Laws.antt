@@ -6,7 +6,8 @@ use Rattle.gh_inst.specs.Instances.{instances, IsInstance}
 
 -- the names in the list of all instances are those that name an instance
 abbrev pub AreAllInstances : Type 0
-AreAllInstances = (n versions : ℕ) (name : InstanceName) → Contains (instances n versions) name ↔ IsInstance n versions name
+AreAllInstances =
+    (n versions : ℕ) (name : InstanceName) → Contains (instances n versions) name ↔ IsInstance n versions name
 
 -- each is there once
 abbrev pub AreDistinct : Type 0

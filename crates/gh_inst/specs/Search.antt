@@ -64,7 +64,8 @@ tuples_with more n first = map (λ rest. first ++ rest) (tuples more n)
 -- there is one
 abbrev pub IsFirstTuple : Tables → ℕ → List Pattern → ℕ → ℕ → List Term → Option (List Term) → Type 0
 IsFirstTuple s version lits variables first start found =
-    IsSearched (IsRowTrueIn s version lits) (tuples_with (variables - first) s.sizes.terms (take first start)) (option_map (take variables) found)
+    IsSearched (IsRowTrueIn s version lits) (tuples_with (variables - first) s.sizes.terms (take first start))
+    (option_map (take variables) found)
 
 -- the first of some instances that is false in a structure, if there is one
 abbrev pub IsFirstFalseOf : Tables → List InstanceName → Option InstanceName → Type 0
@@ -73,4 +74,5 @@ IsFirstFalseOf s names found = IsSearched (IsTrueIn s) names found
 -- .. of the instances of a row
 abbrev pub IsFirstFalseOfRow : Tables → ℕ → Option InstanceName → Type 0
 IsFirstFalseOfRow s number found =
-    (r : AxiomRow) → row_with number table ≡ Some r → IsFirstFalseOf s (row_instances s.sizes.terms s.sizes.versions r) found
+    (r : AxiomRow) → row_with number table ≡ Some r
+    → IsFirstFalseOf s (row_instances s.sizes.terms s.sizes.versions r) found

@@ -3,12 +3,12 @@ use Rattle.std.specs.Prelude.{◌≡◌, List, [], ◌∷◌, map, Bool, true, f
 use Rattle.std.specs.List.{flat_map}
 use Rattle.gh_base.specs.declared.place.Span.{Span}
 use Rattle.gh_ast.specs.Occurrences.{variables_of}
-use Rattle.gh_ast.specs.Plain.{Formula, empty, comparison, points_to, cell, segment, star, cases, Procedure, Program}
+use Rattle.gh_ast.specs.Plain.{Assertion, empty, comparison, points_to, cell, segment, star, cases, Procedure, Program}
 use Rattle.gh_ast.specs.Programs.{name_of}
 use Rattle.gh_ast.specs.Questions.{leaf, either, claims_of, no_claims, Question}
 use Rattle.gh_assert.specs.Heaps.{Heap}
 use Rattle.gh_assert.specs.Meaning.{Store, MeetsOneOf}
-use Rattle.gh_path.specs.Graphs.{Loop, loops_of}
+use Rattle.gh_path.specs.Graphs.{While, loops_of}
 use Rattle.gh_entail.specs.Asked.{IsAdmitted}
 use Rattle.gh_lens.specs.declared.remarks.Kind.{Kind}
 use Rattle.gh_lens.specs.declared.remarks.Kind.TheVariants.{Requires, Ensures, Invariant}
@@ -21,7 +21,7 @@ pub record Subject : Type 0 where
   pub kind : Kind
   pub procedure : Procedure
   pub place : Span
-  pub alternatives : List Formula
+  pub alternatives : List Assertion
 
 abbrev pub requires_of : Procedure → Subject
 requires_of p = record { kind = Requires; procedure = p; place = p.name.span; alternatives = p.needs ∷ [] }
@@ -29,7 +29,7 @@ requires_of p = record { kind = Requires; procedure = p; place = p.name.span; al
 abbrev pub ensures_of : Procedure → Subject
 ensures_of p = record { kind = Ensures; procedure = p; place = p.name.span; alternatives = p.gives }
 
-abbrev pub invariant_of : Procedure → Loop → Subject
+abbrev pub invariant_of : Procedure → While → Subject
 invariant_of p l = record { kind = Invariant; procedure = p; place = l.at; alternatives = l.invariant ∷ [] }
 
 abbrev pub subjects_of : Procedure → List Subject
@@ -55,7 +55,7 @@ IsMeeting s Met = (x : Store) × (h : Heap) × MeetsOneOf s.alternatives x h
 IsMeeting s Unmet = (x : Store) (h : Heap) → MeetsOneOf s.alternatives x h → ⊥
 IsMeeting s Unknown = IsAdmitted (question_on s) → ⊥
 
-abbrev pub is_empty : Formula → Bool
+abbrev pub is_empty : Assertion → Bool
 is_empty empty = true
 is_empty (comparison l e r) = false
 is_empty (points_to a t) = false
@@ -65,7 +65,7 @@ is_empty (star fs) = false
 is_empty (cases t a b) = false
 
 -- `emp`, which a missing invariant is read as
-abbrev pub is_bare : List Formula → Bool
+abbrev pub is_bare : List Assertion → Bool
 is_bare [] = false
 is_bare (f ∷ []) = is_empty f
 is_bare (f ∷ g ∷ fs) = false

@@ -6,8 +6,8 @@ use Rattle.gh_ast.specs.Plain.{Procedure, Program}
 use Rattle.gh_ast.specs.Programs.{parameters_of}
 use Rattle.gh_assert.specs.Meaning.{Store}
 use Rattle.gh_assert.specs.Values.{Give}
-use Rattle.gh_path.specs.Graphs.{Loop, PathStep, accessed, assume, assigned, made, written, freed, called, looped}
-use Rattle.gh_path.specs.Graphs.{answered, IsProcedureAt, IsLoopAt}
+use Rattle.gh_path.specs.Graphs.{While, PathStep, access_step, assume_step, set_step, new_step, write_step, free_step}
+use Rattle.gh_path.specs.Graphs.{call_step, while_step, return_step, IsProcedureAt, IsLoopAt}
 use Rattle.gh_path.specs.Kept.{step_of}
 use Rattle.gh_path.specs.declared.condition.PathStep as kept_step
 use Rattle.gh_trace.specs.Kept.{state_of}
@@ -26,15 +26,16 @@ pub record IsCallExchange (q : Procedure) (vs : List ℕ) (x y : State) (e : Exc
 
 -- only a call and a loop hand cells over: by what the callee requires, and by the invariant
 abbrev pub IsHanded : Program → Procedure → PathStep → State → State → Exchange → Type 0
-IsHanded P proc (accessed o) x y e = ⊥
-IsHanded P proc (assume l c r) x y e = ⊥
-IsHanded P proc (assigned o v) x y e = ⊥
-IsHanded P proc (made o) x y e = ⊥
-IsHanded P proc (written o v) x y e = ⊥
-IsHanded P proc (freed o) x y e = ⊥
-IsHanded P proc (called xs n es) x y e = (q : Procedure) × (vs : List ℕ) × IsProcedureAt P n q × Give x.store x.heap es vs × IsCallExchange q vs x y e
-IsHanded P proc (looped n) x y e = (l : Loop) × IsLoopAt proc n l × IsExchange l.invariant x.store x.heap y.heap e
-IsHanded P proc (answered es) x y e = ⊥
+IsHanded P proc (access_step o) x y e = ⊥
+IsHanded P proc (assume_step l c r) x y e = ⊥
+IsHanded P proc (set_step o v) x y e = ⊥
+IsHanded P proc (new_step o) x y e = ⊥
+IsHanded P proc (write_step o v) x y e = ⊥
+IsHanded P proc (free_step o) x y e = ⊥
+IsHanded P proc (call_step xs n es) x y e =
+    (q : Procedure) × (vs : List ℕ) × IsProcedureAt P n q × Give x.store x.heap es vs × IsCallExchange q vs x y e
+IsHanded P proc (while_step n) x y e = (l : While) × IsLoopAt proc n l × IsExchange l.invariant x.store x.heap y.heap e
+IsHanded P proc (return_step es) x y e = ⊥
 
 -- what is handed over; or nothing is
 abbrev pub IsHandedOr : Program → Procedure → PathStep → State → State → Option Exchange → Type 0
@@ -47,10 +48,11 @@ IsHandedIn setting s x y o = IsHandedOr (whole setting) (here setting) s (state_
 
 -- the same of a call of the procedure of a number, of the loop of a number, and of a step as it is kept
 abbrev pub IsHandedToCallee : Setting → ℕ → List Expr → kept_state.State → kept_state.State → Option Exchange → Type 0
-IsHandedToCallee setting callee es x y o = (xs : List Occ) → IsHandedIn setting (called xs callee es) x y o
+IsHandedToCallee setting callee es x y o = (xs : List Occ) → IsHandedIn setting (call_step xs callee es) x y o
 
 abbrev pub IsHandedToLoop : Setting → ℕ → kept_state.State → kept_state.State → Option Exchange → Type 0
-IsHandedToLoop setting number x y o = IsHandedIn setting (looped number) x y o
+IsHandedToLoop setting number x y o = IsHandedIn setting (while_step number) x y o
 
-abbrev pub IsHandedBetween : Setting → kept_step.PathStep → kept_state.State → kept_state.State → Option Exchange → Type 0
+abbrev pub IsHandedBetween : Setting → kept_step.PathStep → kept_state.State → kept_state.State → Option Exchange
+    → Type 0
 IsHandedBetween setting step x y o = IsHandedIn setting (step_of step) x y o

@@ -28,7 +28,9 @@ cell_line c = line (codes "  " ++ decimal c.at ++ codes ".next: " ++ contents_te
 
 -- what is different in the second of two states
 abbrev pub changes_text : State → State → List ℕ
-changes_text old new = flat_map variable_line (variable_changes old.store (store_of new.store)) ++ flat_map cell_line (cell_changes old.heap new.heap)
+changes_text old new =
+    flat_map variable_line (variable_changes old.store (store_of new.store))
+    ++ flat_map cell_line (cell_changes old.heap new.heap)
 
 -- ` N` for the place of each of some cells
 abbrev pub places_text : List (ℕ × ℕ) → List ℕ

@@ -82,7 +82,8 @@ refuted_count js = length (filter is_refuted js)
 
 abbrev pub count_line : List Judged → List ℕ
 count_line js =
-    line (decimal (length js) ++ codes " conditions: " ++ decimal (refuted_count js) ++ codes " refuted, " ++ decimal (length (of_rank 2 js)) ++ codes " valid")
+    line (decimal (length js) ++ codes " conditions: " ++ decimal (refuted_count js) ++ codes " refuted, "
+    ++ decimal (length (of_rank 2 js)) ++ codes " valid")
 
 abbrev pub overview_text : List Remark → List Judged → List ℕ
 overview_text rs js = remark_lines rs ++ judged_lines (in_order js) ++ count_line js

@@ -10,12 +10,12 @@ use Rattle.gh_ast.specs.declared.Expr.{Expr}
 use Rattle.gh_ast.specs.declared.Expr.TheVariants.{Plain, Read}
 use Rattle.gh_ast.specs.Plain.{Procedure, Program}
 use Rattle.gh_ast.specs.Programs.{Name, name_of, names}
-use Rattle.gh_path.specs.Graphs.{Loop, loops_of, PathStep, accessed, assume, assigned, made, written, freed, called}
-use Rattle.gh_path.specs.Graphs.{looped, answered}
+use Rattle.gh_path.specs.Graphs.{While, loops_of, PathStep, access_step, assume_step, set_step, new_step, write_step}
+use Rattle.gh_path.specs.Graphs.{free_step, call_step, while_step, return_step}
 use Rattle.gh_path.specs.Kept.{step_of}
 use Rattle.gh_path.specs.Walking.{loop_of}
 use Rattle.gh_path.specs.declared.condition.PathStep as kept
-use Rattle.gh_path.specs.declared.loops.While.{While}
+use Rattle.gh_path.specs.declared.loops.While.{While as CodeWhile}
 
 abbrev pub operand_text : Operand → List ℕ
 operand_text (Null span) = codes "null"
@@ -62,15 +62,15 @@ values_text [] = []
 values_text (t ∷ ts) = codes " " ++ list_text (t ∷ ts)
 
 abbrev pub step_text : Program → PathStep → List ℕ
-step_text P (accessed o) = o.name ++ codes " is a cell"
-step_text P (assume l e r) = comparison_text l e r
-step_text P (assigned o e) = o.name ++ codes " := " ++ expr_text e
-step_text P (made o) = o.name ++ codes " := new Node"
-step_text P (written o e) = o.name ++ codes ".next := " ++ expr_text e
-step_text P (freed o) = codes "free " ++ o.name
-step_text P (called xs n es) = called_text (slice_get P.procedures n) (names xs) es
-step_text P (looped n) = codes "the loop"
-step_text P (answered es) = codes "return" ++ values_text (map expr_text es)
+step_text P (access_step o) = o.name ++ codes " is a cell"
+step_text P (assume_step l e r) = comparison_text l e r
+step_text P (set_step o e) = o.name ++ codes " := " ++ expr_text e
+step_text P (new_step o) = o.name ++ codes " := new Node"
+step_text P (write_step o e) = o.name ++ codes ".next := " ++ expr_text e
+step_text P (free_step o) = codes "free " ++ o.name
+step_text P (call_step xs n es) = called_text (slice_get P.procedures n) (names xs) es
+step_text P (while_step n) = codes "the loop"
+step_text P (return_step es) = codes "return" ++ values_text (map expr_text es)
 
 -- the statement of a step as it is kept is added
 abbrev pub AddsStep : Program → kept.PathStep → List ℕ → List ℕ → Type 0
@@ -94,28 +94,28 @@ call_place [] es = exprs_place es
 call_place (x ∷ xs) es = Some x.span
 
 -- where a loop stands, if there is one
-abbrev pub loop_place : Option Loop → Option Span
+abbrev pub loop_place : Option While → Option Span
 loop_place (Some l) = Some l.at
 loop_place None = None
 
 -- where the step stands, in a procedure with these loops; none for a call or a return that has neither targets nor
 -- values
-abbrev pub step_place : List Loop → PathStep → Option Span
-step_place ls (accessed o) = Some o.span
-step_place ls (assume l e r) = Some (expr_place l)
-step_place ls (assigned o e) = Some o.span
-step_place ls (made o) = Some o.span
-step_place ls (written o e) = Some o.span
-step_place ls (freed o) = Some o.span
-step_place ls (called xs n es) = call_place xs es
-step_place ls (looped n) = loop_place (slice_get ls n)
-step_place ls (answered es) = exprs_place es
+abbrev pub step_place : List While → PathStep → Option Span
+step_place ls (access_step o) = Some o.span
+step_place ls (assume_step l e r) = Some (expr_place l)
+step_place ls (set_step o e) = Some o.span
+step_place ls (new_step o) = Some o.span
+step_place ls (write_step o e) = Some o.span
+step_place ls (free_step o) = Some o.span
+step_place ls (call_step xs n es) = call_place xs es
+step_place ls (while_step n) = loop_place (slice_get ls n)
+step_place ls (return_step es) = exprs_place es
 
 -- where the loop of a number stands, and a step as it is kept
-abbrev pub IsLoopPlace : List While → ℕ → Option Span → Type 0
+abbrev pub IsLoopPlace : List CodeWhile → ℕ → Option Span → Type 0
 IsLoopPlace loops n o = o ≡ loop_place (slice_get (map loop_of loops) n)
 
-abbrev pub IsStepPlace : List While → kept.PathStep → Option Span → Type 0
+abbrev pub IsStepPlace : List CodeWhile → kept.PathStep → Option Span → Type 0
 IsStepPlace loops r o = o ≡ step_place (map loop_of loops) (step_of r)
 
 abbrev pub line_text : Option Span → List ℕ

@@ -12,7 +12,7 @@ use Rattle.gh_path.specs.declared.condition.Condition as kept
 use Rattle.gh_path.specs.declared.condition.PathStep as kept_step
 use Rattle.gh_trace.specs.Kept.{state_of, drawn}
 use Rattle.gh_trace.specs.Traces.{Passes, last_state}
-use Rattle.gh_trace.specs.Replay.{Refutes, FirstFailure}
+use Rattle.gh_trace.specs.Replay.{IsDrawnCounterexample, FirstFailure}
 use Rattle.gh_lens.specs.declared.exchange.Exchange.{Exchange}
 use Rattle.gh_lens.specs.declared.story.Explained.{Explained}
 use Rattle.gh_lens.specs.declared.story.Explained.TheVariants.{Told, Fails, Unnumbered}
@@ -42,7 +42,8 @@ TellsStatement P proc r text = text ≡ line (statement_text P proc (step_of r))
 abbrev pub AreStepsTold : Program → Procedure → List PathStep → State → List State → List ℕ → Type 0
 AreStepsTold P proc [] x ys text = text ≡ []
 AreStepsTold P proc (s ∷ ss) x [] text = text ≡ []
-AreStepsTold P proc (s ∷ ss) x (y ∷ ys) text = (a : List ℕ) × (b : List ℕ) × (text ≡ a ++ b) × IsStepTold P proc s x y a × AreStepsTold P proc ss y ys b
+AreStepsTold P proc (s ∷ ss) x (y ∷ ys) text =
+    (a : List ℕ) × (b : List ℕ) × (text ≡ a ++ b) × IsStepTold P proc s x y a × AreStepsTold P proc ss y ys b
 
 abbrev pub TellsSteps : Program → Procedure → List kept_step.PathStep → State → List State → List ℕ → Type 0
 TellsSteps P proc rs x ys text = AreStepsTold P proc (map step_of rs) x ys text
@@ -66,7 +67,8 @@ pub record IsStory (P : Program) (c : Condition) (x : State) (ys : List State) (
 
 -- the check is passed in the last state, up to a double negation
 abbrev pub PassesAtEnd : Program → Condition → State → List State → Type 0
-PassesAtEnd P c x ys = (proc : Procedure) → IsOf P c proc → (Passes P proc c.way.check (last_state (state_of x) (map state_of ys)) → ⊥) → ⊥
+PassesAtEnd P c x ys =
+    (proc : Procedure) → IsOf P c proc → (Passes P proc c.way.check (last_state (state_of x) (map state_of ys)) → ⊥) → ⊥
 
 -- the story of the condition that is kept; or its check is passed
 abbrev pub IsStoryOr : Program → kept.Condition → State → List State → Option (List ℕ) → Type 0
@@ -78,7 +80,7 @@ pub record IsToldOf (P : Program) (c : Condition) (xs : List State) (text : List
   pub first : State
   pub others : List State
   pub states : xs ≡ first ∷ others
-  pub refutes : Refutes P c (map drawn xs)
+  pub refutes : IsDrawnCounterexample P c (map drawn xs)
   pub story : IsStory P c first others text
 
 abbrev pub IsToldFor : Program → kept.Condition → List State → List ℕ → Type 0

@@ -1,8 +1,8 @@
 -- Where an assertion fails: its conjuncts take their parts of a heap in turn.
 use Rattle.std.specs.Prelude.{◌≡◌, ◌≢◌, ◌⊎◌, ℕ, zero, suc, Option, Some, None}
 use Rattle.std.specs.FinMap.{get, remove}
-use Rattle.gh_ast.specs.Plain.{formula_of, Formula, empty, comparison, points_to, cell, segment, star, cases, Formulas}
-use Rattle.gh_ast.specs.Plain.{no_formulas, formula_first}
+use Rattle.gh_ast.specs.Plain.{assertion_of, Assertion, empty, comparison, points_to, cell, segment, star, cases}
+use Rattle.gh_ast.specs.Plain.{Assertions, no_assertions, assertion_first}
 use Rattle.gh_assert.specs.Heaps.{Heap, Splits}
 use Rattle.gh_assert.specs.Meaning.{Store, Meaning, HasPart, value}
 use Rattle.gh_lens.specs.declared.taking.Taking.{Taking}
@@ -11,28 +11,30 @@ use Rattle.gh_lens.specs.declared.taking.Reason.{Reason}
 use Rattle.gh_lens.specs.declared.taking.Reason.TheVariants.{Untrue, Missing, Shared, Content}
 
 -- the conjuncts of an assertion
-abbrev pub conjuncts : Formula → Formulas
-conjuncts empty = formula_first empty no_formulas
-conjuncts (comparison l e r) = formula_first (comparison l e r) no_formulas
-conjuncts (points_to a t) = formula_first (points_to a t) no_formulas
-conjuncts (cell a) = formula_first (cell a) no_formulas
-conjuncts (segment f t) = formula_first (segment f t) no_formulas
+abbrev pub conjuncts : Assertion → Assertions
+conjuncts empty = assertion_first empty no_assertions
+conjuncts (comparison l e r) = assertion_first (comparison l e r) no_assertions
+conjuncts (points_to a t) = assertion_first (points_to a t) no_assertions
+conjuncts (cell a) = assertion_first (cell a) no_assertions
+conjuncts (segment f t) = assertion_first (segment f t) no_assertions
 conjuncts (star fs) = fs
-conjuncts (cases t a b) = formula_first (cases t a b) no_formulas
+conjuncts (cases t a b) = assertion_first (cases t a b) no_assertions
 
 -- the conjuncts before one, g, take their parts; no part of the rest meets g
-abbrev pub IsBlockedAt : Formulas → Store → Heap → Formula → Heap → Type 0
-IsBlockedAt no_formulas s h g rest = ⊥
-IsBlockedAt (formula_first f fs) s h g rest =
-    ((g ≡ f) × (rest ≡ h) × (HasPart f s h → ⊥)) ⊎ ((a : Heap) × (b : Heap) × Splits h a b × Meaning f s a × IsBlockedAt fs s b g rest)
+abbrev pub IsBlockedAt : Assertions → Store → Heap → Assertion → Heap → Type 0
+IsBlockedAt no_assertions s h g rest = ⊥
+IsBlockedAt (assertion_first f fs) s h g rest =
+    ((g ≡ f) × (rest ≡ h) × (HasPart f s h → ⊥))
+    ⊎ ((a : Heap) × (b : Heap) × Splits h a b × Meaning f s a × IsBlockedAt fs s b g rest)
 
 -- all conjuncts take their parts, and this is left over
-abbrev pub LeavesOver : Formulas → Store → Heap → Heap → Type 0
-LeavesOver no_formulas s h rest = rest ≡ h
-LeavesOver (formula_first f fs) s h rest = (a : Heap) × (b : Heap) × Splits h a b × Meaning f s a × LeavesOver fs s b rest
+abbrev pub LeavesOver : Assertions → Store → Heap → Heap → Type 0
+LeavesOver no_assertions s h rest = rest ≡ h
+LeavesOver (assertion_first f fs) s h rest =
+    (a : Heap) × (b : Heap) × Splits h a b × Meaning f s a × LeavesOver fs s b rest
 
-abbrev pub IsTaking : Formulas → Store → Heap → Taking → Type 0
-IsTaking fs s h (Blocked a rest) = IsBlockedAt fs s h (formula_of a.now) rest
+abbrev pub IsTaking : Assertions → Store → Heap → Taking → Type 0
+IsTaking fs s h (Blocked a rest) = IsBlockedAt fs s h (assertion_of a.now) rest
 IsTaking fs s h (Whole rest) = LeavesOver fs s h rest
 
 -- n cells on the way from x, none of them y, and then, at v, there is none left
@@ -56,10 +58,12 @@ content_reason (Some w) o v = Content v w
 
 -- the way from x to y comes to a cell that isn't left; else the reason isn't told
 abbrev pub IsNoSegment : ℕ → ℕ → Heap → Heap → Reason → Type 0
-IsNoSegment x y h rest r = ((v : ℕ) × IsBrokenAt x y rest v × (r ≡ gone_reason (get h v) v)) ⊎ (((v : ℕ) → IsBrokenAt x y rest v → ⊥) × (r ≡ Untrue))
+IsNoSegment x y h rest r =
+    ((v : ℕ) × IsBrokenAt x y rest v × (r ≡ gone_reason (get h v) v))
+    ⊎ (((v : ℕ) → IsBrokenAt x y rest v → ⊥) × (r ≡ Untrue))
 
 -- why no part of what is left of a heap meets a conjunct
-abbrev pub IsReason : Formula → Store → Heap → Heap → Reason → Type 0
+abbrev pub IsReason : Assertion → Store → Heap → Heap → Reason → Type 0
 IsReason empty s h rest r = r ≡ Untrue
 IsReason (comparison a e b) s h rest r = r ≡ Untrue
 IsReason (points_to at to) s h rest r = r ≡ content_reason (get rest (s at.name)) (get h (s at.name)) (s at.name)

@@ -1,7 +1,7 @@
 // Copies of assertions and of lists of names.
 
 ghost use Rattle.std.specs.Prelude.{◌≡◌, ◌++◌, map, IfOk, OnOk};
-ghost use Rattle.gh_ast.specs.Plain.{compare, test_of, comparison, points_to, segment, formula_of, procedure_of};
+ghost use Rattle.gh_ast.specs.Plain.{compare, cond_of, comparison, points_to, segment, assertion_of, procedure_of};
 ghost use Rattle.gh_ast.specs.Occurrences.{variables_of};
 
 use gh_ast::{Assertion, Cond, Expr, Occ, Operand, Procedure};
@@ -36,7 +36,7 @@ fn copy_expr(alloc: Global, expr: &Expr) -> Result<Expr, AllocError>
 
 // A copy of a comparison of a test.
 fn copy_compare(alloc: Global, left: &Expr, equal: bool, right: &Expr) -> Result<Cond, AllocError>
-    ensures { IfOk result (λ t. test_of t ≡ compare left.now equal right.now) }
+    ensures { IfOk result (λ t. cond_of t ≡ compare left.now equal right.now) }
 {
     Ok(Cond::Compare {
         left: copy_expr(alloc, left)?,
@@ -47,7 +47,7 @@ fn copy_compare(alloc: Global, left: &Expr, equal: bool, right: &Expr) -> Result
 
 #[cycle(tests)]
 fn copy_test(alloc: Global, test: &Cond) -> Result<Cond, AllocError>
-    ensures { IfOk result (λ t. test_of t ≡ test_of test.now) }
+    ensures { IfOk result (λ t. cond_of t ≡ cond_of test.now) }
 {
     match test {
         Cond::Compare { left, equal, right } => copy_compare(alloc, left, *equal, right),
@@ -60,14 +60,14 @@ fn copy_test(alloc: Global, test: &Cond) -> Result<Cond, AllocError>
 // A copy of a test in a box.
 #[cycle(tests)]
 fn boxed_test(alloc: Global, test: &Cond) -> Result<Box<Cond>, AllocError>
-    ensures { IfOk result (λ b. test_of b.value ≡ test_of test.now) }
+    ensures { IfOk result (λ b. cond_of b.value ≡ cond_of test.now) }
 {
     Ok(Box::new(alloc, copy_test(alloc, test)?)?)
 }
 
 #[cycle(tests)]
 fn copy_tests(alloc: Global, tests: &[Cond]) -> Result<Vec<Cond>, AllocError>
-    ensures { IfOk result (λ v. map test_of v.items ≡ map test_of tests.now) }
+    ensures { IfOk result (λ v. map cond_of v.items ≡ map cond_of tests.now) }
 {
     let mut copies = Vec::new(alloc);
     for test in tests {
@@ -83,7 +83,7 @@ fn copy_comparison(
     equal: bool,
     right: &Operand,
 ) -> Result<Assertion, AllocError>
-    ensures { IfOk result (λ f. formula_of f ≡ comparison left.now equal right.now) }
+    ensures { IfOk result (λ f. assertion_of f ≡ comparison left.now equal right.now) }
 {
     Ok(Assertion::Pure {
         left: copy_operand(alloc, left)?,
@@ -94,7 +94,7 @@ fn copy_comparison(
 
 // A copy of a cell with its content.
 fn copy_points_to(alloc: Global, at: &Occ, to: &Operand) -> Result<Assertion, AllocError>
-    ensures { IfOk result (λ f. formula_of f ≡ points_to at.now to.now) }
+    ensures { IfOk result (λ f. assertion_of f ≡ points_to at.now to.now) }
 {
     Ok(Assertion::PointsTo {
         at: copy_occ(alloc, at)?,
@@ -104,7 +104,7 @@ fn copy_points_to(alloc: Global, at: &Occ, to: &Operand) -> Result<Assertion, Al
 
 // A copy of a segment.
 fn copy_segment(alloc: Global, from: &Operand, to: &Operand) -> Result<Assertion, AllocError>
-    ensures { IfOk result (λ f. formula_of f ≡ segment from.now to.now) }
+    ensures { IfOk result (λ f. assertion_of f ≡ segment from.now to.now) }
 {
     Ok(Assertion::Lseg {
         from: copy_operand(alloc, from)?,
@@ -115,7 +115,7 @@ fn copy_segment(alloc: Global, from: &Operand, to: &Operand) -> Result<Assertion
 /// A copy of an assertion.
 #[cycle(assertion)]
 pub fn copy_assertion(alloc: Global, assertion: &Assertion) -> Result<Assertion, AllocError>
-    ensures { IfOk result (λ f. formula_of f ≡ formula_of assertion.now) }
+    ensures { IfOk result (λ f. assertion_of f ≡ assertion_of assertion.now) }
 {
     match assertion {
         Assertion::Emp => Ok(Assertion::Emp),
@@ -140,7 +140,7 @@ pub fn copy_assertion(alloc: Global, assertion: &Assertion) -> Result<Assertion,
 // A copy of an assertion in a box.
 #[cycle(assertion)]
 fn boxed_assertion(alloc: Global, assertion: &Assertion) -> Result<Box<Assertion>, AllocError>
-    ensures { IfOk result (λ b. formula_of b.value ≡ formula_of assertion.now) }
+    ensures { IfOk result (λ b. assertion_of b.value ≡ assertion_of assertion.now) }
 {
     Ok(Box::new(alloc, copy_assertion(alloc, assertion)?)?)
 }
@@ -151,7 +151,7 @@ pub fn copy_assertions(
     alloc: Global,
     assertions: &[Assertion],
 ) -> Result<Vec<Assertion>, AllocError>
-    ensures { IfOk result (λ v. map formula_of v.items ≡ map formula_of assertions.now) }
+    ensures { IfOk result (λ v. map assertion_of v.items ≡ map assertion_of assertions.now) }
 {
     let mut copies = Vec::new(alloc);
     for assertion in assertions {

@@ -1,7 +1,7 @@
 //! Where a check fails.
 
 ghost use Rattle.std.specs.Prelude.{◌≡◌, ◌++◌, map, IfOk, OnOk};
-ghost use Rattle.gh_ast.specs.Plain.{comparison, segment, formula_of};
+ghost use Rattle.gh_ast.specs.Plain.{comparison, segment, assertion_of};
 ghost use Rattle.gh_assert.specs.Stores.{store_of};
 ghost use Rattle.gh_trace.specs.Kept.{state_of};
 ghost use Rattle.gh_trace.specs.Settings.{HasLoops, here, whole};
@@ -28,7 +28,7 @@ fn push_comparison(
     equal: bool,
     right: &Operand,
 ) -> Result<(), AllocError>
-    ensures { OnOk result (text.new ≡ text.old ++ told.formula_text (comparison left.now equal right.now)) }
+    ensures { OnOk result (text.new ≡ text.old ++ told.assertion_text (comparison left.now equal right.now)) }
 {
     push_operand(text, left)?;
     text.push(if equal { b" == " } else { b" != " })?;
@@ -37,7 +37,7 @@ fn push_comparison(
 }
 
 fn push_segment(text: &mut Text, from: &Operand, to: &Operand) -> Result<(), AllocError>
-    ensures { OnOk result (text.new ≡ text.old ++ told.formula_text (segment from.now to.now)) }
+    ensures { OnOk result (text.new ≡ text.old ++ told.assertion_text (segment from.now to.now)) }
 {
     text.push(b"lseg(")?;
     push_operand(text, from)?;
@@ -49,7 +49,7 @@ fn push_segment(text: &mut Text, from: &Operand, to: &Operand) -> Result<(), All
 
 // Adds a conjunct.
 fn push_formula(text: &mut Text, assertion: &Assertion) -> Result<(), AllocError>
-    ensures { OnOk result (text.new ≡ text.old ++ told.formula_text (formula_of assertion.now)) }
+    ensures { OnOk result (text.new ≡ text.old ++ told.assertion_text (assertion_of assertion.now)) }
 {
     match assertion {
         Assertion::Emp => text.push(b"emp"),
@@ -138,7 +138,7 @@ fn push_compared(
     store: &Store,
     conjunct: &Assertion,
 ) -> Result<(), AllocError>
-    ensures { OnOk result (text.new ≡ text.old ++ told.compared_text (store_of store.now) (formula_of conjunct.now)) }
+    ensures { OnOk result (text.new ≡ text.old ++ told.compared_text (store_of store.now) (assertion_of conjunct.now)) }
 {
     match conjunct {
         Assertion::Pure { left, right, .. } => push_sides(alloc, text, store, left, right),
@@ -158,7 +158,7 @@ fn blocked_line(
     conjunct: &Assertion,
     reason: Reason,
 ) -> Result<Text, AllocError>
-    ensures { IfOk result (λ t. t ≡ told.blocked_line (store_of store.now) (formula_of conjunct.now) reason) }
+    ensures { IfOk result (λ t. t ≡ told.blocked_line (store_of store.now) (assertion_of conjunct.now) reason) }
 {
     let mut text = Text::new(alloc);
     text.push(b"  ")?;
@@ -187,7 +187,7 @@ pub fn miss(
     heap: &Heap,
     assertion: &Assertion,
 ) -> Result<Text, AllocError>
-    ensures { IfOk result (told.IsMiss (formula_of assertion.now) (store_of store.now) heap.now) }
+    ensures { IfOk result (told.IsMiss (assertion_of assertion.now) (store_of store.now) heap.now) }
 {
     match taken(alloc, store, heap, conjuncts(assertion))? {
         Taking::Blocked { conjunct, rest } => {
@@ -205,7 +205,7 @@ fn misses(
     heap: &Heap,
     alternatives: &[Assertion],
 ) -> Result<Text, AllocError>
-    ensures { IfOk result (told.AreMisses (map formula_of alternatives.now) (store_of store.now) heap.now) }
+    ensures { IfOk result (told.AreMisses (map assertion_of alternatives.now) (store_of store.now) heap.now) }
 {
     let mut text = Text::new(alloc);
     for alternative in alternatives {

@@ -24,8 +24,8 @@ pub struct Overview {
     pub refuted: usize,
 }
 
-// When one should look at a condition: 0 is first.
-fn rank(judged: &Judged) -> u8
+/// When one should look at a condition: 0 for refuted ground work, 1 for what else is refuted, 2 for what is valid.
+pub fn rank(judged: &Judged) -> u8
     ensures { result ≡ shown.rank judged.now }
 {
     match judged.finding {

@@ -1,7 +1,7 @@
 //! Whether some heap meets each contract and each invariant of a program.
 
 ghost use Rattle.std.specs.Prelude.{◌≡◌, map, IfOk};
-ghost use Rattle.gh_ast.specs.Plain.{formula_of, procedure_of, program_of};
+ghost use Rattle.gh_ast.specs.Plain.{assertion_of, procedure_of, program_of};
 ghost use Rattle.gh_ast.specs.Questions.{leaf, either, claim_of, claims_of, question_of};
 ghost use Rattle.gh_path.specs.Walking.{loop_of};
 ghost use Rattle.gh_lens.specs.Assertions.{is_empty as is_emp_formula, is_bare as is_bare_list, question_on, IsMeeting};
@@ -59,7 +59,7 @@ pub struct Stated<'t> {
 
 // The claim that one of some assertions holds.
 fn claim(alloc: Global, assertions: &[Assertion]) -> Result<Claim, AllocError>
-    ensures { IfOk result (λ c. claim_of c ≡ either (claims_of (map leaf (map formula_of assertions.now)))) }
+    ensures { IfOk result (λ c. claim_of c ≡ either (claims_of (map leaf (map assertion_of assertions.now)))) }
 {
     let mut claims = Vec::new(alloc);
     for assertion in assertions {
@@ -102,14 +102,14 @@ fn meeting_of(alloc: Global, stated: Stated<'_>) -> Result<Meeting, AllocError>
 }
 
 fn is_emp(assertion: &Assertion) -> bool
-    ensures { result ≡ is_emp_formula (formula_of assertion.now) }
+    ensures { result ≡ is_emp_formula (assertion_of assertion.now) }
 {
     matches!(assertion, Assertion::Emp)
 }
 
 // Whether the one alternative is just `emp`.
 fn is_bare(alternatives: &[Assertion]) -> bool
-    ensures { result ≡ is_bare_list (map formula_of alternatives.now) }
+    ensures { result ≡ is_bare_list (map assertion_of alternatives.now) }
 {
     match alternatives {
         [only] => is_emp(only),

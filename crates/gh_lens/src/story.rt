@@ -7,7 +7,7 @@ ghost use Rattle.gh_trace.specs.Settings.{HasLoops, here, whole};
 ghost use Rattle.gh_path.specs.Conditions.{IsOf, StepIsThere};
 ghost use Rattle.gh_path.specs.Kept.{condition_of, step_of, IsScoped};
 ghost use Rattle.gh_trace.specs.Kept.{drawn, state_of};
-ghost use Rattle.gh_trace.specs.Replay.{Refutes};
+ghost use Rattle.gh_trace.specs.Replay.{IsDrawnCounterexample};
 ghost use Rattle.gh_trace.specs.Traces.{last_state};
 ghost use Rattle.gh_lens.specs.Stories as told;
 
@@ -166,7 +166,7 @@ fn told_of(
     states: &[State],
 ) -> Result<Text, AllocError>
     requires scoped { IsScoped (program_of typed.now) condition.now }
-    requires shown { Refutes (program_of typed.now) (condition_of condition.now) (map drawn states.now) }
+    requires shown { IsDrawnCounterexample (program_of typed.now) (condition_of condition.now) (map drawn states.now) }
     ensures { IfOk result (told.IsToldFor (program_of typed.now) condition.now states.now) }
 {
     let Some(procedure) = procedure_at(typed, condition.procedure) else {

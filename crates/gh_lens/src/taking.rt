@@ -2,7 +2,7 @@
 
 ghost use Rattle.std.specs.Prelude.{◌≡◌, ℕ, IfOk, IfSome, IfNone};
 ghost use Rattle.std.specs.FinMap as map;
-ghost use Rattle.gh_ast.specs.Plain.{formula_of, formulas_view};
+ghost use Rattle.gh_ast.specs.Plain.{assertion_of, assertions_view};
 ghost use Rattle.gh_assert.specs.Stores.{store_of};
 ghost use Rattle.gh_lens.specs.Takings as told;
 
@@ -35,7 +35,7 @@ pub enum Reason {
 
 /// The conjuncts of an assertion.
 pub fn conjuncts(assertion: &Assertion) -> &[Assertion]
-    ensures { formulas_view result.now ≡ told.conjuncts (formula_of assertion.now) }
+    ensures { assertions_view result.now ≡ told.conjuncts (assertion_of assertion.now) }
 {
     match assertion {
         Assertion::Star(members) => members.as_slice(),
@@ -55,7 +55,7 @@ pub fn taken<'t>(
     heap: &Heap,
     conjuncts: &'t [Assertion],
 ) -> Result<Taking<'t>, AllocError>
-    ensures { IfOk result (told.IsTaking (formulas_view conjuncts.now) (store_of store.now) heap.now) }
+    ensures { IfOk result (told.IsTaking (assertions_view conjuncts.now) (store_of store.now) heap.now) }
 {
     let mut rest = heap.copy(alloc)?;
     for conjunct in conjuncts {
@@ -127,7 +127,7 @@ pub fn reason_for(
     rest: &Heap,
     conjunct: &Assertion,
 ) -> Result<Reason, AllocError>
-    ensures { IfOk result (told.IsReason (formula_of conjunct.now) (store_of store.now) heap.now rest.now) }
+    ensures { IfOk result (told.IsReason (assertion_of conjunct.now) (store_of store.now) heap.now rest.now) }
 {
     match conjunct {
         Assertion::PointsTo { at, .. } => Ok(other_content(heap, rest, value_of(store, at))),

@@ -77,7 +77,8 @@ AreOfKind p lines = (i : ℕ) (l : LogLine) → slice_get lines i ≡ Some l →
 
 -- the last line has a clause, and that is empty
 abbrev pub EndsEmpty : Problem → List LogLine → Type 0
-EndsEmpty p lines = (before : List LogLine) × (last : LogLine) × (lines ≡ before ++ last ∷ []) × (line_clause p last ≡ Some [])
+EndsEmpty p lines =
+    (before : List LogLine) × (last : LogLine) × (lines ≡ before ++ last ∷ []) × (line_clause p last ≡ Some [])
 
 pub record IsValidSection (p : Problem) (lines : List LogLine) : Type 0 where
   pub of_kind : AreOfKind p lines
@@ -114,7 +115,8 @@ IsFirstFault p lines number place = IsFirstFaulty p lines number place ⊎ HasNo
 
 -- no interpretation whose equality is a congruence makes the clauses and all axiom instances true
 abbrev pub HasNoModel : Problem → Type 0
-HasNoModel p = (m : Interpretation) → IsCongruence p.sizes m → All (IsClauseTrue m) p.clauses → AreInstancesTrue p.sizes m → ⊥
+HasNoModel p =
+    (m : Interpretation) → IsCongruence p.sizes m → All (IsClauseTrue m) p.clauses → AreInstancesTrue p.sizes m → ⊥
 
 -- a problem for which a section is valid has no model
 abbrev pub ValidSectionsRefute : Type 0

@@ -97,7 +97,8 @@ pub record IsFirstOutside (text : List ℕ) (k : ℕ) : Type 0 where
   pub whole : text ≡ front ++ rest
   pub number_is : k ≡ lines_before front + 1
   pub before : (front ≡ []) ⊎ (IsLogText front × (rest ≢ []))
-  pub outside : (l after : List ℕ) → rest ≡ l ++ (line_end ++ after) → All (λ b. b ≢ 10) l → IsLogText (front ++ l ++ line_end) → ⊥
+  pub outside : (l after : List ℕ) → rest ≡ l ++ (line_end ++ after) → All (λ b. b ≢ 10) l
+      → IsLogText (front ++ l ++ line_end) → ⊥
 
 -- why a text isn't read
 abbrev pub IsLogRefusal : List ℕ → LogError → Type 0

@@ -43,7 +43,9 @@ numbers_text ns = flat_map (λ n. codes " " ++ decimal n) ns
 
 -- the line of an instance: its letter, and then row, version and terms
 abbrev pub name_text : InstanceName → List ℕ
-name_text name = codes "a " ++ decimal name.row ++ codes " " ++ decimal name.version ++ flat_map term_text (tuple_of name) ++ line_end
+name_text name =
+    codes "a " ++ decimal name.row ++ codes " " ++ decimal name.version ++ flat_map term_text (tuple_of name)
+    ++ line_end
 
 abbrev pub line_text : LogLine → List ℕ
 line_text (line.Axiom name) = name_text name

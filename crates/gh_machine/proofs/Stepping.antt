@@ -13,11 +13,14 @@ use Rattle.gh_machine.specs.Turns.{AlwaysNext}
 use Rattle.gh_machine.specs.declared.step.Choice.{Choice}
 use Rattle.gh_machine.specs.declared.step.Next.TheVariants.{Moved, Fault}
 
-pub continued : (c : Config) (t t' : Store) (h h' : Heap) (r r' : Statements) → t ≡ t' → h ≡ h' → r ≡ r' → continuing c t h r ≡ continuing c t' h' r'
-continued c t t' h h' r r' p q e = ap (λ x. continuing c x h r) p ∙ ap (λ x. continuing c t' x r) q ∙ ap (λ x. continuing c t' h' x) e
+pub continued : (c : Config) (t t' : Store) (h h' : Heap) (r r' : Statements) → t ≡ t' → h ≡ h' → r ≡ r'
+    → continuing c t h r ≡ continuing c t' h' r'
+continued c t t' h h' r r' p q e =
+    ap (λ x. continuing c x h r) p ∙ ap (λ x. continuing c t' x r) q ∙ ap (λ x. continuing c t' h' x) e
 
 -- a step by the statement that comes next
-pub moves : (P : Program) (ch : Choice) (c d : Config) (r : Statements) → c.top.rest ≡ r → StepOn P r c d → Follows (chosen ch d.top.procedure) r c d → (IsReturn r → ⊥) → (Misfits P ch r c.heap → ⊥) → IsNext P ch Moved c d
+pub moves : (P : Program) (ch : Choice) (c d : Config) (r : Statements) → c.top.rest ≡ r → StepOn P r c d
+    → Follows (chosen ch d.top.procedure) r c d → (IsReturn r → ⊥) → (Misfits P ch r c.heap → ⊥) → IsNext P ch Moved c d
 moves P ch c d r e st follows other fits = (
   (subst (λ s. StepOn P s c d) (sym e) st, subst (λ s. Follows (chosen ch d.top.procedure) s c d) (sym e) follows),
   λ last. other (subst IsReturn e last.1),
@@ -40,7 +43,8 @@ pub record SameFirst (ps qs : List Procedure) (f : Name) : Type 0 where
 pub same_first : (ps : List Procedure) (f : Name) → SameFirst ps ps f
 same_first ps f = record { there = λ q d. d; back = λ q d. d }
 
-pub same_further : (ps : List Procedure) (r : Procedure) (qs : List Procedure) (f : Name) → SameFirst ps (r ∷ qs) f → (name_of r ≢ f) → SameFirst ps qs f
+pub same_further : (ps : List Procedure) (r : Procedure) (qs : List Procedure) (f : Name) → SameFirst ps (r ∷ qs) f
+    → (name_of r ≢ f) → SameFirst ps qs f
 same_further ps r qs f same other = record {
   there = λ q d. elim (same.there q d) [ inl (is, e) ↦ absurd (other is) | inr (n, more) ↦ more ];
   back = λ q d. same.back q (inr (other, d));

@@ -15,7 +15,8 @@ pub record Choice : Type 0 where
 -- from c to d the first statement of the rest follows the choice; only `new` and calls have something to choose
 abbrev pub Follows : Choice → Statements → Config → Config → Type 0
 Follows choice (statement_first (new x) rest) c d = d.heap ≡ insert c.heap choice.location choice.content
-Follows choice (statement_first (call xs f es) rest) c d = (y : Name) → (Contains (parameters_of d.top.procedure) y → ⊥) → d.top.store y ≡ choice.starts y
+Follows choice (statement_first (call xs f es) rest) c d =
+    (y : Name) → (Contains (parameters_of d.top.procedure) y → ⊥) → d.top.store y ≡ choice.starts y
 Follows choice rest c d = Unit {0}
 
 -- the step under the choice

@@ -5,7 +5,7 @@ use Rattle.std.specs.Borrow.{Bor}
 use Rattle.std.specs.FinMap.{get}
 use Rattle.gh_ast.specs.declared.Occ.{Occ}
 use Rattle.gh_ast.specs.declared.Procedure as kept
-use Rattle.gh_ast.specs.Plain.{new, call, give, Statements, statement_first, statements_view, procedure_of, Procedure}
+use Rattle.gh_ast.specs.Plain.{new, call, return, Statements, statement_first, statements_view, procedure_of, Procedure}
 use Rattle.gh_ast.specs.Plain.{Program}
 use Rattle.gh_ast.specs.Programs.{Name, names, parameters_of, results_of, variable_names, Declares, SomeAssigns}
 use Rattle.gh_ast.specs.Occurrences.{locals_of}
@@ -26,7 +26,11 @@ use Rattle.gh_machine.specs.declared.step.Next.{Next}
 use Rattle.gh_machine.specs.declared.step.Next.TheVariants.{Moved, Ended, Fault, NotAChoice}
 
 abbrev pub activation_of : Activation → machine.Activation
-activation_of a = record { procedure = procedure_of a.procedure.now; store = store_of a.store; rest = statements_view a.rest }
+activation_of a = record {
+  procedure = procedure_of a.procedure.now;
+  store = store_of a.store;
+  rest = statements_view a.rest;
+}
 
 -- the activations that wait are kept with the nearest caller last
 abbrev pub config_of : Config → machine.Config
@@ -49,19 +53,25 @@ beginning p arguments starts = beside (variable_names p) (arguments ++ starts)
 -- the procedure of the number at its start
 abbrev pub IsBeginning : Program → ℕ → List ℕ → List ℕ → Heap → machine.Config → Type 0
 IsBeginning P number arguments starts h c =
-    (d : Procedure) → c ≡ starting (slice_index_or P.procedures number d) (store_of (beginning (slice_index_or P.procedures number d) arguments starts)) h []
+    (d : Procedure) → c ≡ starting (slice_index_or P.procedures number d)
+    (store_of (beginning (slice_index_or P.procedures number d) arguments starts)) h []
 
 -- the choice, where p is called
 abbrev pub chosen : Choice → Procedure → choices.Choice
-chosen c p = record { location = c.location; content = c.content; starts = store_of (beside (starts_of p) c.starts.items) }
+chosen c p = record {
+  location = c.location;
+  content = c.content;
+  starts = store_of (beside (starts_of p) c.starts.items);
+}
 
 -- how many values the next statement leaves to choose for a callee's results and locals
 abbrev pub WantsStarts : Program → Statements → ℕ → Type 0
-WantsStarts P (statement_first (call xs f es) rest) n = (proc : Procedure) × Declares P f.name proc × (n ≡ length (starts_of proc))
+WantsStarts P (statement_first (call xs f es) rest) n =
+    (proc : Procedure) × Declares P f.name proc × (n ≡ length (starts_of proc))
 WantsStarts P ss n = n ≡ 0
 
 abbrev pub IsReturn : Statements → Type 0
-IsReturn (statement_first (give at es) rest) = Unit {0}
+IsReturn (statement_first (return at es) rest) = Unit {0}
 IsReturn ss = ⊥
 
 -- the next statement is a return of the only activation
@@ -71,12 +81,14 @@ ReturnsLast c = (c.below ≡ []) × IsReturn c.top.rest
 -- the location can't be had, or the values are not as many as the callee's results and locals
 abbrev pub Misfits : Program → Choice → Statements → Heap → Type 0
 Misfits P choice (statement_first (new x) rest) h = (choice.location ≡ 0) ⊎ (get h choice.location ≢ None)
-Misfits P choice (statement_first (call xs f es) rest) h = (proc : Procedure) × Declares P f.name proc × (length choice.starts.items ≢ length (starts_of proc))
+Misfits P choice (statement_first (call xs f es) rest) h =
+    (proc : Procedure) × Declares P f.name proc × (length choice.starts.items ≢ length (starts_of proc))
 Misfits P choice ss h = ⊥
 
 -- the answers of a step from c to d
 abbrev pub IsNext : Program → Choice → Next → machine.Config → machine.Config → Type 0
-IsNext P choice Moved c d = StepBy P (chosen choice d.top.procedure) c d × (ReturnsLast c → ⊥) × (Misfits P choice c.top.rest c.heap → ⊥)
+IsNext P choice Moved c d =
+    StepBy P (chosen choice d.top.procedure) c d × (ReturnsLast c → ⊥) × (Misfits P choice c.top.rest c.heap → ⊥)
 IsNext P choice Ended c d = (HasEnded c × (d ≡ c)) ⊎ (ReturnsLast c × Step P c d)
 IsNext P choice Fault c d = machine.Fault c × (d ≡ c)
 IsNext P choice NotAChoice c d = (machine.Fault c → ⊥) × Misfits P choice c.top.rest c.heap × (d ≡ c)

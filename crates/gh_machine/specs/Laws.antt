@@ -25,14 +25,16 @@ EndsStop = (P : Program) (c d : Config) → HasEnded c → Step P c d → ⊥
 -- where a part alone has no fault, a step of the whole is a step of the part, and what is beside the part stays
 abbrev pub StepsKeepFrames : Type 0
 StepsKeepFrames =
-    (P : Program) (c d : Config) (part frame : Heap) → Splits c.heap part frame → (Fault (holding c part) → ⊥) → Step P c d →
+    (P : Program) (c d : Config) (part frame : Heap) → Splits c.heap part frame → (Fault (holding c part) → ⊥)
+    → Step P c d →
     (k : Heap) × Splits d.heap k frame × Step P (holding c part) (holding d k)
 
 -- a step of a part is one of the whole, as long as the heap after it is apart from the frame: a new cell may not
 -- stand in the frame
 abbrev pub StepsTakeFrames : Type 0
 StepsTakeFrames =
-    (P : Program) (b e : Config) (whole after frame : Heap) → Splits whole b.heap frame → Splits after e.heap frame → Step P b e → Step P (holding b whole) (holding e after)
+    (P : Program) (b e : Config) (whole after frame : Heap) → Splits whole b.heap frame → Splits after e.heap frame
+    → Step P b e → Step P (holding b whole) (holding e after)
 
 -- no run from the configuration comes to a fault
 abbrev pub NeverFaults : Program → Config → Type 0
@@ -40,8 +42,10 @@ NeverFaults P b = (es : List Config) → IsRun P b es → (e : Config) → Conta
 
 -- a run beside a frame is a run without it, with the frame untouched
 pub record RunsKeepFrames : Type 0 where
-  pub off : (P : Program) (frame : Heap) (c b : Config) (ds : List Config) → IsWithout frame c b → NeverFaults P b → IsRun P c ds → (es : List Config) × IsRun P b es × AreWithout frame (c ∷ ds) (b ∷ es)
-  pub on : (P : Program) (frame : Heap) (c b : Config) (ds es : List Config) → AreWithout frame (c ∷ ds) (b ∷ es) → IsRun P b es → IsRun P c ds
+  pub off : (P : Program) (frame : Heap) (c b : Config) (ds : List Config) → IsWithout frame c b → NeverFaults P b
+      → IsRun P c ds → (es : List Config) × IsRun P b es × AreWithout frame (c ∷ ds) (b ∷ es)
+  pub on : (P : Program) (frame : Heap) (c b : Config) (ds es : List Config) → AreWithout frame (c ∷ ds) (b ∷ es)
+      → IsRun P b es → IsRun P c ds
 
 -- a program that breaks no type rule fits the rules on counts
 abbrev pub TypedFit : Type 0
@@ -53,10 +57,16 @@ StepsFit = (P : Program) → ProgramFits P → (c d : Config) → ConfigFits P c
 
 -- where counts agree, a configuration that neither faults nor has ended has a step
 abbrev pub RunsGoOn : Type 0
-RunsGoOn = (P : Program) → ProgramFits P → (c : Config) → ConfigFits P c → (Fault c → ⊥) → (HasEnded c → ⊥) → (d : Config) × Step P c d
+RunsGoOn =
+    (P : Program) → ProgramFits P → (c : Config) → ConfigFits P c → (Fault c → ⊥) → (HasEnded c → ⊥)
+    → (d : Config) × Step P c d
 
 -- a run over a stack is a run of its top over the rest, until the top ends
 pub record RunsKeepStacks : Type 0 where
-  pub over : (P : Program) (b : List Activation) (c d : Config) → (IsAtEnd c → ⊥) → Step P c d → Step P (onto c b) (onto d b)
-  pub under : (P : Program) (b : List Activation) (c e : Config) → (IsAtEnd c → ⊥) → Step P (onto c b) e → (d : Config) × Step P c d × (e ≡ onto d b)
-  pub runs : (P : Program) (b : List Activation) (c : Config) (es : List Config) → IsRun P (onto c b) es → (ds : List Config) × (rest : List Config) × IsRun P c ds × (es ≡ map (λ d. onto d b) ds ++ rest) × ((rest ≡ []) ⊎ IsAtEnd (last_of c ds))
+  pub over : (P : Program) (b : List Activation) (c d : Config) → (IsAtEnd c → ⊥) → Step P c d
+      → Step P (onto c b) (onto d b)
+  pub under : (P : Program) (b : List Activation) (c e : Config) → (IsAtEnd c → ⊥) → Step P (onto c b) e
+      → (d : Config) × Step P c d × (e ≡ onto d b)
+  pub runs : (P : Program) (b : List Activation) (c : Config) (es : List Config) → IsRun P (onto c b) es
+      → (ds : List Config) × (rest : List Config) × IsRun P c ds × (es ≡ map (λ d. onto d b) ds ++ rest)
+      × ((rest ≡ []) ⊎ IsAtEnd (last_of c ds))

@@ -1,13 +1,13 @@
 -- Runs of a program.
 use Rattle.std.specs.Prelude.{◌≡◌, ◌≢◌, ◌⊎◌, ℕ, List, [], ◌∷◌, map, Bool, cond, Some, None, Contains}
 use Rattle.std.specs.FinMap.{get, insert, remove}
-use Rattle.gh_ast.specs.Plain.{set, new, write, free, call, choice, loop, give, Statements, no_statements}
+use Rattle.gh_ast.specs.Plain.{set, new, write, free, call, if, while, return, Statements, no_statements}
 use Rattle.gh_ast.specs.Plain.{statement_first, Procedure, Program}
 use Rattle.gh_assert.specs.Heaps.{Heap, Splits}
 use Rattle.gh_assert.specs.Meaning.{Store, Meaning, MeetsOneOf}
 use Rattle.gh_assert.specs.Walks.{Allocated}
 use Rattle.gh_assert.specs.Values.{result, Give, outcome, Gets, HasUnread}
-use Rattle.gh_ast.specs.Programs.{names, parameters_of, results_of, body_of, Declares, joined}
+use Rattle.gh_ast.specs.Programs.{names, parameters_of, results_of, body_statements, Declares, joined}
 
 -- a procedure at work: its variables, and what it has still to do
 pub record Activation : Type 0 where
@@ -22,16 +22,25 @@ pub record Config : Type 0 where
   pub below : List Activation
 
 abbrev pub starting : Procedure → Store → Heap → List Activation → Config
-starting p s h below = record { heap = h; top = record { procedure = p; store = s; rest = body_of p }; below = below }
+starting p s h below = record {
+  heap = h;
+  top = record { procedure = p; store = s; rest = body_statements p };
+  below = below;
+}
 
 -- the top activation goes on
 abbrev pub continuing : Config → Store → Heap → Statements → Config
-continuing c t h rest = record { heap = h; top = record { procedure = c.top.procedure; store = t; rest = rest }; below = c.below }
+continuing c t h rest = record {
+  heap = h;
+  top = record { procedure = c.top.procedure; store = t; rest = rest };
+  below = c.below;
+}
 
 -- the caller's targets get the results' values from the store at the end, and the call is taken off
 abbrev pub HandsBack : Statements → Activation → List Activation → Procedure → Store → Heap → Config → Type 0
 HandsBack (statement_first (call xs f es) rest) a below p t h d =
-    (u : Store) × Gets a.store (names xs) (map t (results_of p)) u × (d ≡ record { heap = h; top = record { procedure = a.procedure; store = u; rest = rest }; below = below })
+    (u : Store) × Gets a.store (names xs) (map t (results_of p)) u
+    × (d ≡ record { heap = h; top = record { procedure = a.procedure; store = u; rest = rest }; below = below })
 HandsBack rest a below p t h d = ⊥
 
 -- an empty rest above another activation is popped
@@ -47,21 +56,29 @@ Returns c t d = ((c.below ≡ []) × (d ≡ continuing c t c.heap no_statements)
 abbrev pub StepOn : Program → Statements → Config → Config → Type 0
 StepOn P no_statements c d = Pops c.below c.top.procedure c.top.store c.heap d
 StepOn P (statement_first (set x e) rest) c d =
-    (v : ℕ) × (t : Store) × (result c.top.store c.heap e ≡ Some v) × Gets c.top.store (x.name ∷ []) (v ∷ []) t × (d ≡ continuing c t c.heap rest)
+    (v : ℕ) × (t : Store) × (result c.top.store c.heap e ≡ Some v) × Gets c.top.store (x.name ∷ []) (v ∷ []) t
+    × (d ≡ continuing c t c.heap rest)
 StepOn P (statement_first (new x) rest) c d =
-    (l : ℕ) × (v : ℕ) × (t : Store) × (l ≢ 0) × (get c.heap l ≡ None) × Gets c.top.store (x.name ∷ []) (l ∷ []) t × (d ≡ continuing c t (insert c.heap l v) rest)
+    (l : ℕ) × (v : ℕ) × (t : Store) × (l ≢ 0) × (get c.heap l ≡ None) × Gets c.top.store (x.name ∷ []) (l ∷ []) t
+    × (d ≡ continuing c t (insert c.heap l v) rest)
 StepOn P (statement_first (write x e) rest) c d =
-    (v : ℕ) × (result c.top.store c.heap e ≡ Some v) × Allocated c.heap (c.top.store x.name) × (d ≡ continuing c c.top.store (insert c.heap (c.top.store x.name) v) rest)
+    (v : ℕ) × (result c.top.store c.heap e ≡ Some v) × Allocated c.heap (c.top.store x.name)
+    × (d ≡ continuing c c.top.store (insert c.heap (c.top.store x.name) v) rest)
 StepOn P (statement_first (free x) rest) c d =
     Allocated c.heap (c.top.store x.name) × (d ≡ continuing c c.top.store (remove c.heap (c.top.store x.name)) rest)
 StepOn P (statement_first (call xs f es) rest) c d =
-    (proc : Procedure) × (vs : List ℕ) × (t : Store) × Declares P f.name proc × Give c.top.store c.heap es vs × (map t (parameters_of proc) ≡ vs) × (d ≡ starting proc t c.heap (c.top ∷ c.below))
-StepOn P (statement_first (choice test a ca b cb) rest) c d =
-    (way : Bool) × (outcome c.top.store c.heap test ≡ Some way) × (d ≡ continuing c c.top.store c.heap (cond way (joined a rest) (joined b rest)))
-StepOn P (statement_first (loop at test inv body close) rest) c d =
-    (way : Bool) × (outcome c.top.store c.heap test ≡ Some way) × (d ≡ continuing c c.top.store c.heap (cond way (joined body (statement_first (loop at test inv body close) rest)) rest))
-StepOn P (statement_first (give at es) rest) c d =
-    (vs : List ℕ) × (t : Store) × Give c.top.store c.heap es vs × Gets c.top.store (results_of c.top.procedure) vs t × Returns c t d
+    (proc : Procedure) × (vs : List ℕ) × (t : Store) × Declares P f.name proc × Give c.top.store c.heap es vs
+    × (map t (parameters_of proc) ≡ vs) × (d ≡ starting proc t c.heap (c.top ∷ c.below))
+StepOn P (statement_first (if test a ca b cb) rest) c d =
+    (way : Bool) × (outcome c.top.store c.heap test ≡ Some way)
+    × (d ≡ continuing c c.top.store c.heap (cond way (joined a rest) (joined b rest)))
+StepOn P (statement_first (while at test inv body close) rest) c d =
+    (way : Bool) × (outcome c.top.store c.heap test ≡ Some way)
+    × (d ≡ continuing c c.top.store c.heap
+    (cond way (joined body (statement_first (while at test inv body close) rest)) rest))
+StepOn P (statement_first (return at es) rest) c d =
+    (vs : List ℕ) × (t : Store) × Give c.top.store c.heap es vs × Gets c.top.store (results_of c.top.procedure) vs t
+    × Returns c t d
 
 -- one step, by the first statement of the topmost rest
 abbrev pub Step : Program → Config → Config → Type 0
@@ -74,9 +91,9 @@ FaultOn (statement_first (new x) rest) s h = ⊥
 FaultOn (statement_first (write x e) rest) s h = (result s h e ≡ None) ⊎ (get h (s x.name) ≡ None)
 FaultOn (statement_first (free x) rest) s h = get h (s x.name) ≡ None
 FaultOn (statement_first (call xs f es) rest) s h = HasUnread s h es
-FaultOn (statement_first (choice test a ca b cb) rest) s h = outcome s h test ≡ None
-FaultOn (statement_first (loop at test inv body close) rest) s h = outcome s h test ≡ None
-FaultOn (statement_first (give at es) rest) s h = HasUnread s h es
+FaultOn (statement_first (if test a ca b cb) rest) s h = outcome s h test ≡ None
+FaultOn (statement_first (while at test inv body close) rest) s h = outcome s h test ≡ None
+FaultOn (statement_first (return at es) rest) s h = HasUnread s h es
 
 -- what the first statement reads, writes or frees isn't allocated
 abbrev pub Fault : Config → Type 0
@@ -106,5 +123,6 @@ pub record IsGoodRun (p : Procedure) (frame : Heap) (c : Config) (ds : List Conf
 -- a program is good: every run of each procedure, from each part that meets what it needs, with any frame beside it
 abbrev pub IsGood : Program → Type 0
 IsGood P =
-    (proc : Procedure) → Contains P.procedures proc → (s : Store) (h part frame : Heap) → Splits h part frame → Meaning proc.needs s part →
+    (proc : Procedure) → Contains P.procedures proc → (s : Store) (h part frame : Heap) → Splits h part frame
+    → Meaning proc.needs s part →
     (ds : List Config) → IsRun P (starting proc s h []) ds → IsGoodRun proc frame (starting proc s h []) ds

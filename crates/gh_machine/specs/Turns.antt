@@ -4,8 +4,8 @@ use Rattle.gh_base.specs.declared.place.Span.{Span}
 use Rattle.gh_ast.specs.declared.Occ.{Occ}
 use Rattle.gh_ast.specs.declared.Expr.{Expr}
 use Rattle.gh_ast.specs.declared.Stmt.{Stmt}
-use Rattle.gh_ast.specs.Plain.{Test, Formula, Statement, call, choice, loop, give, statement_first, statements_view}
-use Rattle.gh_ast.specs.Plain.{Part, Program}
+use Rattle.gh_ast.specs.Plain.{Cond, Assertion, Statement, call, if, while, return, statement_first, statements_view}
+use Rattle.gh_ast.specs.Plain.{Block, Program}
 use Rattle.gh_machine.specs.Machine as machine
 use Rattle.gh_machine.specs.Machine.{Pops}
 use Rattle.gh_machine.specs.Configs.{IsNext, IsMadeFor}
@@ -22,22 +22,23 @@ ComesFirst s c = statements_view c.top.rest ≡ statement_first s (statements_vi
 abbrev pub CallComes : Occ → List Expr → Config → Type 0
 CallComes f es c = (xs : List Occ) × ComesFirst (call xs f es) c
 
-abbrev pub ChoiceComes : Test → Part → Part → Config → Type 0
-ChoiceComes t a b c = ComesFirst (choice t a.statements a.close b.statements b.close) c
+abbrev pub IfComes : Cond → Block → Block → Config → Type 0
+IfComes t a b c = ComesFirst (if t a.statements a.close b.statements b.close) c
 
-abbrev pub LoopComes : Test → Part → Config → Type 0
-LoopComes t body c = (at : Span) × (inv : Formula) × ComesFirst (loop at t inv body.statements body.close) c
+abbrev pub WhileComes : Cond → Block → Config → Type 0
+WhileComes t body c = (at : Span) × (inv : Assertion) × ComesFirst (while at t inv body.statements body.close) c
 
 abbrev pub ReturnComes : List Expr → Config → Type 0
-ReturnComes es c = (at : Span) × ComesFirst (give at es) c
+ReturnComes es c = (at : Span) × ComesFirst (return at es) c
 
 -- the statements begin with a call that has these targets
 abbrev pub Calls : List Occ → List Stmt → Type 0
-Calls xs ss = (f : Occ) × (es : List Expr) × (statements_view ss ≡ statement_first (call xs f es) (statements_view (drop 1 ss)))
+Calls xs ss =
+    (f : Occ) × (es : List Expr) × (statements_view ss ≡ statement_first (call xs f es) (statements_view (drop 1 ss)))
 
 -- an answer that no program and no choice would change
 abbrev pub AlwaysNext : Next → machine.Config → machine.Config → Type 0
-AlwaysNext next c d = (P : Program) (choice : Choice) → IsNext P choice next c d
+AlwaysNext next c d = (P : Program) (if : Choice) → IsNext P if next c d
 
 -- what comes of a procedure that has nothing left
 abbrev pub IsPopped : Next → machine.Config → machine.Config → Type 0

@@ -2,12 +2,12 @@
 
 ghost use Rattle.std.specs.Prelude.{◌≡◌, IfOk, OnErr, Contains};
 ghost use Rattle.gh_ast.specs.Plain as plain;
-ghost use Rattle.gh_ast.specs.Plain.{program_of, statements_view, test_of, part_of, Procedure as PlainProcedure};
+ghost use Rattle.gh_ast.specs.Plain.{program_of, statements_view, cond_of, block_of, Procedure as PlainProcedure};
 ghost use Rattle.gh_assert.specs.Stores.{listed_names};
 ghost use Rattle.gh_machine.specs.Fits.{Awaits};
 ghost use Rattle.gh_machine.specs.Configs.{config_of, IsNextOf, IsMadeFor, AllListVariables, FindsDeclared};
 ghost use Rattle.gh_machine.specs.Configs.{WantsStarts};
-ghost use Rattle.gh_machine.specs.Turns.{ComesFirst, CallComes, ChoiceComes, LoopComes, ReturnComes, Calls, AlwaysNext};
+ghost use Rattle.gh_machine.specs.Turns.{ComesFirst, CallComes, IfComes, WhileComes, ReturnComes, Calls, AlwaysNext};
 ghost use Rattle.gh_machine.specs.Turns.{IsPopped, IsMadeForSome};
 
 use crate::config::Config;
@@ -114,7 +114,7 @@ fn branch<'p>(
     taken: &'p Block,
     otherwise: &'p Block,
 ) -> Result<Next, AllocError>
-    requires comes { ChoiceComes (test_of test.now) (part_of taken.now) (part_of otherwise.now) config.old }
+    requires comes { IfComes (cond_of test.now) (block_of taken.now) (block_of otherwise.now) config.old }
     requires lists { AllListVariables config.old }
     ensures next { IfOk result (λ next. AlwaysNext next (config_of config.old) (config_of config.new)) }
     ensures err { OnErr result (config_of config.new ≡ config_of config.old) }
@@ -129,7 +129,7 @@ fn branch<'p>(
 }
 
 fn turn<'p>(config: &mut Config<'p>, test: &Cond, body: &'p Block) -> Result<Next, AllocError>
-    requires comes { LoopComes (test_of test.now) (part_of body.now) config.old }
+    requires comes { WhileComes (cond_of test.now) (block_of body.now) config.old }
     requires lists { AllListVariables config.old }
     ensures next { IfOk result (λ next. AlwaysNext next (config_of config.old) (config_of config.new)) }
     ensures err { OnErr result (config_of config.new ≡ config_of config.old) }

@@ -3,7 +3,7 @@
 ghost use Rattle.std.specs.Prelude.{◌≡◌, ◌≢◌, ◌↔◌, ◌++◌, IfOk, IsTrue, None, OnOk, OnSome, length, AllPairs, Contains};
 ghost use Rattle.std.specs.FinMap as finite;
 ghost use Rattle.gh_ast.specs.Plain.{procedure_of, statements_view};
-ghost use Rattle.gh_ast.specs.Programs.{names, variable_names, body_of};
+ghost use Rattle.gh_ast.specs.Programs.{names, variable_names, body_statements};
 ghost use Rattle.gh_ast.specs.Occurrences.{locals_of};
 ghost use Rattle.gh_assert.specs.Stores.{listed_names, store_of};
 ghost use Rattle.gh_assert.specs.Values.{Gets};
@@ -70,7 +70,7 @@ fn locals(procedure: &Procedure) -> &[Occ]
 }
 
 fn statements(procedure: &Procedure) -> &[Stmt]
-    ensures { statements_view result.now ≡ body_of (procedure_of procedure.now) }
+    ensures { statements_view result.now ≡ body_statements (procedure_of procedure.now) }
 {
     match &procedure.body {
         Some(body) => body.block.statements.as_slice(),
@@ -97,7 +97,7 @@ pub fn enter<'p>(
     requires starts { length starts.now ≡ length (starts_of (procedure_of procedure.now)) }
     ensures procedure { IfOk result (λ a. a.procedure.now ≡ procedure.now) }
     ensures store { IfOk result (λ a. a.store ≡ beginning (procedure_of procedure.now) arguments.now starts.now) }
-    ensures rest { IfOk result (λ a. statements_view a.rest ≡ body_of (procedure_of procedure.now)) }
+    ensures rest { IfOk result (λ a. statements_view a.rest ≡ body_statements (procedure_of procedure.now)) }
 {
     let count = procedure.results.len();
     let mut store = Store::new(alloc);

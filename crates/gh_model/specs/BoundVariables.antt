@@ -18,4 +18,5 @@ AllAreOf xs (b ∷ bs) = AreOf xs b × AllAreOf xs bs
 -- at the states of a condition only variables of its procedure have terms
 abbrev pub OnlyVariablesHaveTerms : Type 0
 OnlyVariablesHaveTerms =
-    (P : Program) (proc : Procedure) (c : Condition) → IsTyped P → IsCondition P c → IsOf P c proc → AllAreOf (variable_names proc) (symbolic_of P proc c).bindings
+    (P : Program) (proc : Procedure) (c : Condition) → IsTyped P → IsCondition P c → IsOf P c proc
+    → AllAreOf (variable_names proc) (symbolic_of P proc c).bindings

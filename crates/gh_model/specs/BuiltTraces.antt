@@ -63,12 +63,14 @@ states_under m n (i ∷ is) (b ∷ bs) = state_under m n i b ∷ states_under m 
 
 -- a term's value is its class, which is named by its least term
 abbrev pub built_trace : Program → Procedure → Condition → Interpretation → List State
-built_trace P proc c m = states_under m (length (symbolic_of P proc c).terms) (versions_along 0 c.way.steps) (symbolic_of P proc c).bindings
+built_trace P proc c m =
+    states_under m (length (symbolic_of P proc c).terms) (versions_along 0 c.way.steps) (symbolic_of P proc c).bindings
 
 -- the trace of a model of a condition is a counterexample
 abbrev pub LocalityHolds : Type 0
 LocalityHolds =
-    (P : Program) (proc : Procedure) (c : Condition) (m : Interpretation) → IsTyped P → IsCondition P c → IsOf P c proc → IsModelOf P proc c m →
+    (P : Program) (proc : Procedure) (c : Condition) (m : Interpretation) → IsTyped P → IsCondition P c → IsOf P c proc
+    → IsModelOf P proc c m →
     AreCounterexample P c (built_trace P proc c m)
 
 -- a heap that version i depicts over the values V: its cells stand at values and contain values
@@ -81,5 +83,6 @@ pub record IsVersionBuilt (V : List ℕ) (m : Interpretation) (i : ℕ) (h : Hea
 -- contents are the hops, and whose Between is that of the version; the values are the classes of the terms
 abbrev pub VersionsAreBuilt : Type 0
 VersionsAreBuilt =
-    (P : Program) (proc : Procedure) (c : Condition) (m : Interpretation) (i : ℕ) → IsModelOf P proc c m → i < (symbolic_of P proc c).versions →
+    (P : Program) (proc : Procedure) (c : Condition) (m : Interpretation) (i : ℕ) → IsModelOf P proc c m
+    → i < (symbolic_of P proc c).versions →
     let n = length (symbolic_of P proc c).terms in IsVersionBuilt (classes (equal_in m) n) m i (heap_in m n i)

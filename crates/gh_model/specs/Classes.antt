@@ -22,8 +22,10 @@ pub record IsCongruence (equal : ℕ → ℕ → Bool) (n : ℕ) (m : HeapStruct
   pub back : (x y : ℕ) → x < n → y < n → IsTrue (equal x y) → IsTrue (equal y x)
   pub on : (x y z : ℕ) → x < n → y < n → z < n → IsTrue (equal x y) → IsTrue (equal y z) → IsTrue (equal x z)
   pub alloc : (x y : ℕ) → x < n → y < n → IsTrue (equal x y) → IsTrue (m.alloc x) → IsTrue (m.alloc y)
-  pub hop : (x y v w : ℕ) → x < n → y < n → v < n → w < n → IsTrue (equal x y) → IsTrue (equal v w) → IsTrue (m.hop x v) → IsTrue (m.hop y w)
-  pub between : (x x' y y' z z' : ℕ) → x < n → x' < n → y < n → y' < n → z < n → z' < n → IsTrue (equal x x') → IsTrue (equal y y') → IsTrue (equal z z') → IsTrue (m.between x y z) → IsTrue (m.between x' y' z')
+  pub hop : (x y v w : ℕ) → x < n → y < n → v < n → w < n → IsTrue (equal x y) → IsTrue (equal v w) → IsTrue (m.hop x v)
+      → IsTrue (m.hop y w)
+  pub between : (x x' y y' z z' : ℕ) → x < n → x' < n → y < n → y' < n → z < n → z' < n → IsTrue (equal x x')
+      → IsTrue (equal y y') → IsTrue (equal z z') → IsTrue (m.between x y z) → IsTrue (m.between x' y' z')
 
 -- the classes of n terms are a model, and the structure says of terms what it says of their classes
 pub record HasClasses (equal : ℕ → ℕ → Bool) (n : ℕ) (m : HeapStructure) : Type 0 where
@@ -34,4 +36,5 @@ pub record HasClasses (equal : ℕ → ℕ → Bool) (n : ℕ) (m : HeapStructur
   pub agrees : (x y : ℕ) → x < n → y < n → IsTrue (equal x y) ↔ (class_of equal n x ≡ class_of equal n y)
   pub alloc : (x : ℕ) → x < n → IsTrue (m.alloc x) ↔ IsTrue (m.alloc (class_of equal n x))
   pub hop : (x v : ℕ) → x < n → v < n → IsTrue (m.hop x v) ↔ IsTrue (m.hop (class_of equal n x) (class_of equal n v))
-  pub between : (x y z : ℕ) → x < n → y < n → z < n → IsTrue (m.between x y z) ↔ IsTrue (m.between (class_of equal n x) (class_of equal n y) (class_of equal n z))
+  pub between : (x y z : ℕ) → x < n → y < n → z < n
+      → IsTrue (m.between x y z) ↔ IsTrue (m.between (class_of equal n x) (class_of equal n y) (class_of equal n z))

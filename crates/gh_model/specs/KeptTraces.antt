@@ -20,7 +20,7 @@ use Rattle.gh_symb.specs.declared.over_terms.TermStep.{TermStep}
 use Rattle.gh_trace.specs.declared.state.State.{State}
 use Rattle.gh_trace.specs.declared.state.Trace.{Trace}
 use Rattle.gh_trace.specs.Kept.{drawn_of}
-use Rattle.gh_trace.specs.Replay.{Drawn, Refutes}
+use Rattle.gh_trace.specs.Replay.{Drawn, IsDrawnCounterexample}
 use Rattle.gh_trace.specs.Traces as plain
 use Rattle.gh_model.specs.Classes.{class_of}
 use Rattle.gh_model.specs.Versions.{equal_in}
@@ -37,7 +37,10 @@ store_in s b = store_under (class_of (equal_in (interpretation_of s)) s.sizes.te
 
 -- the variables xs in order with these values, and the heap of version i
 abbrev pub state_in : Tables → List Name → ℕ → List Bond → State
-state_in s xs i b = record { store = entries_under (store_in s b) xs; heap = heap_in (interpretation_of s) s.sizes.terms i }
+state_in s xs i b = record {
+  store = entries_under (store_in s b) xs;
+  heap = heap_in (interpretation_of s) s.sizes.terms i;
+}
 
 -- some variables with their values in a structure, and the state of a procedure at the version i
 abbrev pub values_of : Tables → List Bond → List Name → List Entry
@@ -71,7 +74,8 @@ AreBelow n b = (x : Name) (t : Term) → term_in b x ≡ Some t → t.0 < n
 -- the structure has the terms of each binding and the version of each state
 abbrev pub HasAll : Tables → ℕ → List TermStep → List (List Bond) → Type 0
 HasAll s i ps [] = Unit {0}
-HasAll s i ps (b ∷ bs) = (i < s.sizes.versions) × AreBelow s.sizes.terms b × HasAll s (after_first ps i) (past_first ps) bs
+HasAll s i ps (b ∷ bs) =
+    (i < s.sizes.versions) × AreBelow s.sizes.terms b × HasAll s (after_first ps i) (past_first ps) bs
 
 -- states whose stores list these names
 abbrev pub drawn_over : List Name → List plain.State → List Drawn
@@ -88,5 +92,6 @@ IsTraceOf P r s t = AreBuilt P r (interpretation_of s) (drawn_of t)
 -- the trace of a model of a condition, drawn over the variables of its procedure, is a counterexample
 abbrev pub BuiltIsCounterexample : Type 0
 BuiltIsCounterexample =
-    (P : Program) (proc : Procedure) (c : Condition) (m : Interpretation) → IsTyped P → IsCondition P c → IsOf P c proc → IsModelOf P proc c m →
-    Refutes P c (drawn_over (variable_names proc) (built_trace P proc c m))
+    (P : Program) (proc : Procedure) (c : Condition) (m : Interpretation) → IsTyped P → IsCondition P c → IsOf P c proc
+    → IsModelOf P proc c m →
+    IsDrawnCounterexample P c (drawn_over (variable_names proc) (built_trace P proc c m))

@@ -1,7 +1,7 @@
 -- The laws.
 use Rattle.std.specs.Prelude.{◌≡◌, ◌⊎◌, ◌↔◌, ℕ, ◌<◌, List, Bool, Some, None, IsTrue, Contains}
 use Rattle.std.specs.FinMap.{get}
-use Rattle.gh_ast.specs.Plain.{Formula}
+use Rattle.gh_ast.specs.Plain.{Assertion}
 use Rattle.gh_assert.specs.Heaps.{Heap}
 use Rattle.gh_assert.specs.Meaning.{Store}
 use Rattle.gh_assert.specs.Walks.{succ}
@@ -22,11 +22,15 @@ use Rattle.gh_model.specs.Transitions.{StepsByWrite, StepsByNew, StepsByFree, St
 
 -- a value hops to one value at most
 abbrev pub HopsAgree : Type 0
-HopsAgree = (V : List ℕ) (m : HeapStructure) → IsModelOver V m → (x v w : ℕ) → Contains V x → Contains V v → Contains V w → IsTrue (m.hop x v) → IsTrue (m.hop x w) → v ≡ w
+HopsAgree =
+    (V : List ℕ) (m : HeapStructure) → IsModelOver V m → (x v w : ℕ) → Contains V x → Contains V v → Contains V w
+    → IsTrue (m.hop x v) → IsTrue (m.hop x w) → v ≡ w
 
 -- the cells of the built heap are the hops, all of them at values of V
 abbrev pub ContentsAreHops : Type 0
-ContentsAreHops = (V : List ℕ) (m : HeapStructure) → IsModelOver V m → (x v : ℕ) → (get (built V m) x ≡ Some v) ↔ (Contains V x × Contains V v × IsTrue (m.hop x v))
+ContentsAreHops =
+    (V : List ℕ) (m : HeapStructure) → IsModelOver V m → (x v : ℕ)
+    → (get (built V m) x ≡ Some v) ↔ (Contains V x × Contains V v × IsTrue (m.hop x v))
 
 -- the structure represents its built heap, and that heap is owned
 pub record IsBuilt (V : List ℕ) (m : HeapStructure) : Type 0 where
@@ -39,40 +43,60 @@ ModelsAreBuilt = (V : List ℕ) (m : HeapStructure) → IsModelOver V m → IsBu
 
 -- what represents an owned heap keeps the axioms
 abbrev pub HeapsAreModels : Type 0
-HeapsAreModels = (V : List ℕ) (h : Heap) (m : HeapStructure) → Contains V 0 → get h 0 ≡ None → Owned V h → Represents V h m → IsModelOver V m
+HeapsAreModels =
+    (V : List ℕ) (h : Heap) (m : HeapStructure) → Contains V 0 → get h 0 ≡ None → Owned V h → Represents V h m
+    → IsModelOver V m
 
 -- assertions on the built heap can be read off the values of V
 abbrev pub BuiltIsRead : Type 0
-BuiltIsRead = (V : List ℕ) (m : HeapStructure) (s : Store) (f : Formula) → IsModelOver V m → IsNamed f s V → IsReadOff V (built V m) s f
+BuiltIsRead =
+    (V : List ℕ) (m : HeapStructure) (s : Store) (f : Assertion) → IsModelOver V m → IsNamed f s V
+    → IsReadOff V (built V m) s f
 
 -- a structure agrees on each assertion with a heap that it represents
 abbrev pub AssertionsAgree : Type 0
-AssertionsAgree = (V : List ℕ) (h : Heap) (m : HeapStructure) (s : Store) (f : Formula) → get h 0 ≡ None → Owned V h → Represents V h m → HasNames f s h V → AgreeOn V h m s f
+AssertionsAgree =
+    (V : List ℕ) (h : Heap) (m : HeapStructure) (s : Store) (f : Assertion) → get h 0 ≡ None → Owned V h
+    → Represents V h m → HasNames f s h V → AgreeOn V h m s f
 
 -- a model agrees on each assertion with its built heap
 abbrev pub BuiltAgrees : Type 0
-BuiltAgrees = (V : List ℕ) (m : HeapStructure) (s : Store) (f : Formula) → IsModelOver V m → IsNamed f s V → AgreeOn V (built V m) m s f
+BuiltAgrees =
+    (V : List ℕ) (m : HeapStructure) (s : Store) (f : Assertion) → IsModelOver V m → IsNamed f s V
+    → AgreeOn V (built V m) m s f
 
 -- what x hops to where x is allocated, and x itself where it isn't, is the successor of x in the built heap
 abbrev pub NextIsSuccessor : Type 0
-NextIsSuccessor = (V : List ℕ) (m : HeapStructure) → IsModelOver V m → (x t : ℕ) → Contains V x → Contains V t → (IsTrue (m.alloc x) → IsTrue (m.hop x t)) → IsTrue (m.alloc x) ⊎ (x ≡ t) → succ (built V m) x ≡ t
+NextIsSuccessor =
+    (V : List ℕ) (m : HeapStructure) → IsModelOver V m → (x t : ℕ) → Contains V x → Contains V t
+    → (IsTrue (m.alloc x) → IsTrue (m.hop x t)) → IsTrue (m.alloc x) ⊎ (x ≡ t) → succ (built V m) x ≡ t
 
 -- two built heaps are one step apart where their structures are
 abbrev pub WritesAreBuilt : Type 0
-WritesAreBuilt = (V : List ℕ) (m n : HeapStructure) → IsModelOver V m → IsModelOver V n → (x v : ℕ) → Contains V x → Contains V v → StepsByWrite V m n x v → IsPut (built V m) (built V n) x v
+WritesAreBuilt =
+    (V : List ℕ) (m n : HeapStructure) → IsModelOver V m → IsModelOver V n → (x v : ℕ) → Contains V x → Contains V v
+    → StepsByWrite V m n x v → IsPut (built V m) (built V n) x v
 
 abbrev pub NewsAreBuilt : Type 0
-NewsAreBuilt = (V : List ℕ) (m n : HeapStructure) → IsModelOver V m → IsModelOver V n → (x v : ℕ) → Contains V x → Contains V v → StepsByNew V m n x v → (get (built V m) x ≡ None) × IsPut (built V m) (built V n) x v
+NewsAreBuilt =
+    (V : List ℕ) (m n : HeapStructure) → IsModelOver V m → IsModelOver V n → (x v : ℕ) → Contains V x → Contains V v
+    → StepsByNew V m n x v → (get (built V m) x ≡ None) × IsPut (built V m) (built V n) x v
 
 abbrev pub FreesAreBuilt : Type 0
-FreesAreBuilt = (V : List ℕ) (m n : HeapStructure) → IsModelOver V m → IsModelOver V n → (x : ℕ) → Contains V x → StepsByFree V m n x → IsFreed (built V m) (built V n) x
+FreesAreBuilt =
+    (V : List ℕ) (m n : HeapStructure) → IsModelOver V m → IsModelOver V n → (x : ℕ) → Contains V x
+    → StepsByFree V m n x → IsFreed (built V m) (built V n) x
 
 abbrev pub CallsAreBuilt : Type 0
-CallsAreBuilt = (V : List ℕ) (m n : HeapStructure) (p q : Formula) (s t : Store) → IsModelOver V m → IsModelOver V n → IsNamed p s V → IsNamed q t V → StepsByCall V m n p q s t → IsCalled (built V m) (built V n) p q s t
+CallsAreBuilt =
+    (V : List ℕ) (m n : HeapStructure) (p q : Assertion) (s t : Store) → IsModelOver V m → IsModelOver V n
+    → IsNamed p s V → IsNamed q t V → StepsByCall V m n p q s t → IsCalled (built V m) (built V n) p q s t
 
 -- a structure on terms, whose equality is a congruence and which keeps the axioms, is a model over its classes
 abbrev pub ClassesAreModels : Type 0
-ClassesAreModels = (equal : ℕ → ℕ → Bool) (n : ℕ) (m : HeapStructure) → 0 < n → IsCongruence equal n m → KeepsAxioms (λ t. t < n) (λ x y. IsTrue (equal x y)) m → HasClasses equal n m
+ClassesAreModels =
+    (equal : ℕ → ℕ → Bool) (n : ℕ) (m : HeapStructure) → 0 < n → IsCongruence equal n m
+    → KeepsAxioms (λ t. t < n) (λ x y. IsTrue (equal x y)) m → HasClasses equal n m
 
 -- some structure represents an owned heap
 abbrev pub RepresentationsExist : Type 0
@@ -80,15 +104,20 @@ RepresentationsExist = (V : List ℕ) (h : Heap) → get h 0 ≡ None → Owned 
 
 -- a version of an interpretation in which all instances of the axioms are true keeps them over the terms
 abbrev pub InstancesAreKept : Type 0
-InstancesAreKept = (s : Sizes) (m : Interpretation) (i : ℕ) → i < s.versions → AreInstancesTrue s m → HasHops s.terms (version_of m i) → KeepsAxioms (λ t. t < s.terms) (λ x y. IsTrue (equal_in m x y)) (version_of m i)
+InstancesAreKept =
+    (s : Sizes) (m : Interpretation) (i : ℕ) → i < s.versions → AreInstancesTrue s m → HasHops s.terms (version_of m i)
+    → KeepsAxioms (λ t. t < s.terms) (λ x y. IsTrue (equal_in m x y)) (version_of m i)
 
 -- and where equality is a congruence, the classes of its terms are a model
 abbrev pub VersionsAreModels : Type 0
-VersionsAreModels = (s : Sizes) (m : Interpretation) (i : ℕ) → i < s.versions → 0 < s.terms → congruence.IsCongruence s m → AreInstancesTrue s m → HasHops s.terms (version_of m i) → HasClasses (equal_in m) s.terms (version_of m i)
+VersionsAreModels =
+    (s : Sizes) (m : Interpretation) (i : ℕ) → i < s.versions → 0 < s.terms → congruence.IsCongruence s m
+    → AreInstancesTrue s m → HasHops s.terms (version_of m i) → HasClasses (equal_in m) s.terms (version_of m i)
 
 -- the rows that betweenness keeps in a heap are the ten rows of a structure over all values
 abbrev pub RowsAreTheOrder : Type 0
-RowsAreTheOrder = (m : HeapStructure) → Rows (λ x y z. IsTrue (m.between x y z)) ↔ IsOrdered (λ x. Unit {0}) (λ x y. x ≡ y) m
+RowsAreTheOrder =
+    (m : HeapStructure) → Rows (λ x y z. IsTrue (m.between x y z)) ↔ IsOrdered (λ x. Unit {0}) (λ x y. x ≡ y) m
 
 -- 0 is no cell, and among what N holds of, what reaches another is a cell, and each cell has a hop
 pub record KeepsCells (N : ℕ → Type 0) (E : ℕ → ℕ → Type 0) (m : HeapStructure) : Type 0 where
@@ -112,4 +141,6 @@ pub record RowsAreTheLinks : Type 0 where
 
 -- equality is a congruence of an interpretation exactly where it is one of each version
 abbrev pub CongruencesAreOfVersions : Type 0
-CongruencesAreOfVersions = (s : Sizes) (m : Interpretation) → congruence.IsCongruence s m ↔ ((i : ℕ) → i < s.versions → IsCongruence (equal_in m) s.terms (version_of m i))
+CongruencesAreOfVersions =
+    (s : Sizes) (m : Interpretation)
+    → congruence.IsCongruence s m ↔ ((i : ℕ) → i < s.versions → IsCongruence (equal_in m) s.terms (version_of m i))

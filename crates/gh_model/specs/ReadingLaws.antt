@@ -4,9 +4,9 @@ use Rattle.std.specs.FinMap.{get}
 use Rattle.gh_base.specs.declared.atom.Term.{Term}
 use Rattle.gh_base.specs.Meaning.{Interpretation}
 use Rattle.gh_base.specs.Atoms.{term}
-use Rattle.gh_ast.specs.Plain.{Formula}
+use Rattle.gh_ast.specs.Plain.{Assertion}
 use Rattle.gh_ast.specs.Programs.{Name}
-use Rattle.gh_ast.specs.Names.{FormulaIn}
+use Rattle.gh_ast.specs.Names.{AssertionIn}
 use Rattle.gh_assert.specs.Heaps.{Heap, IsPart}
 use Rattle.gh_assert.specs.Meaning.{Store, Meaning}
 use Rattle.gh_assert.specs.Walks.{succ, Allocated}
@@ -27,8 +27,9 @@ pub record IsOwnedHeap (V : List ℕ) (m : Interpretation) (i : ℕ) (h : Heap) 
 
 -- the variables of the assertion have terms with their values, and so has what follows a place whose content the
 -- assertion speaks of; all values that the assertion names are in V
-pub record HasTerms (V : List ℕ) (b : Variables) (next : Term → Term) (st : Store) (h : Heap) (xs : List Name) (f : Formula) : Type 0 where
-  pub over : FormulaIn f xs
+pub record HasTerms (V : List ℕ) (b : Variables) (next : Term → Term) (st : Store) (h : Heap) (xs : List Name)
+    (f : Assertion) : Type 0 where
+  pub over : AssertionIn f xs
   pub bound : (x : Name) → Contains xs x → slice_get V (b x).0 ≡ Some (st x)
   pub after : AtCells (λ x. slice_get V (next (b x)).0 ≡ Some (succ h (st x))) f
   pub named : HasNames f st h V
@@ -36,12 +37,15 @@ pub record HasTerms (V : List ℕ) (b : Variables) (next : Term → Term) (st : 
 -- the structure formula is true exactly where some part of the heap meets the assertion, the footprint formula then
 -- exactly for the terms whose values lie in that part, and the formula of the whole exactly where the whole heap meets
 -- the assertion
-pub record IsReadOffTerms (V : List ℕ) (m : Interpretation) (i : ℕ) (b : Variables) (next : Term → Term) (st : Store) (h : Heap) (f : Formula) : Type 0 where
+pub record IsReadOffTerms (V : List ℕ) (m : Interpretation) (i : ℕ) (b : Variables) (next : Term → Term) (st : Store)
+    (h : Heap) (f : Assertion) : Type 0 where
   pub part : IsTrue (truth m (structure b next i (length V) f)) ↔ ((a : Heap) × IsPart a h × Meaning f st a)
-  pub footprint : (a : Heap) → IsPart a h → Meaning f st a → (t z : ℕ) → slice_get V t ≡ Some z → IsTrue (truth m (footprint b i (term t) f)) ↔ Allocated a z
+  pub footprint : (a : Heap) → IsPart a h → Meaning f st a → (t z : ℕ) → slice_get V t ≡ Some z
+      → IsTrue (truth m (footprint b i (term t) f)) ↔ Allocated a z
   pub whole : IsTrue (truth m (whole_of b next i (length V) f)) ↔ Meaning f st h
 
 abbrev pub FormulasAreRead : Type 0
 FormulasAreRead =
-    (V : List ℕ) (m : Interpretation) (i : ℕ) (b : Variables) (next : Term → Term) (st : Store) (h : Heap) (xs : List Name) (f : Formula) →
+    (V : List ℕ) (m : Interpretation) (i : ℕ) (b : Variables) (next : Term → Term) (st : Store) (h : Heap)
+    (xs : List Name) (f : Assertion) →
     IsOwnedHeap V m i h → HasTerms V b next st h xs f → IsReadOffTerms V m i b next st h f

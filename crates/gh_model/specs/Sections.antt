@@ -12,5 +12,6 @@ use Rattle.gh_log.specs.Sections.{IsValidSection}
 -- where a section is valid for the clauses of a condition, the condition has no counterexample
 abbrev pub SectionsShowValidity : Type 0
 SectionsShowValidity =
-    (P : Program) (proc : Procedure) (c : Condition) (lines : List LogLine) → IsTyped P → IsCondition P c → IsOf P c proc →
+    (P : Program) (proc : Procedure) (c : Condition) (lines : List LogLine) → IsTyped P → IsCondition P c
+    → IsOf P c proc →
     IsValidSection (problem (symbolic_of P proc c)) lines → IsConditionValid P c

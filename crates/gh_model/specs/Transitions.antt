@@ -1,7 +1,7 @@
 -- What the clauses of a step say of the structures before and after it, and what the step does to heaps.
 use Rattle.std.specs.Prelude.{◌≡◌, ◌≢◌, ◌⊎◌, ◌↔◌, ℕ, List, Some, None, IsTrue, Contains}
 use Rattle.std.specs.FinMap.{get}
-use Rattle.gh_ast.specs.Plain.{Formula}
+use Rattle.gh_ast.specs.Plain.{Assertion}
 use Rattle.gh_assert.specs.Heaps.{Heap, Splits}
 use Rattle.gh_assert.specs.Meaning.{Store, Meaning}
 use Rattle.gh_model.specs.Structures.{HeapStructure}
@@ -30,11 +30,11 @@ pub record StepsByFree (V : List ℕ) (m n : HeapStructure) (x : ℕ) : Type 0 w
   pub kept : KeepsHops V m n x
 
 -- z is a cell that a call or a loop keeps: it is outside the footprint of p
-abbrev pub IsSetAside : Formula → Store → HeapStructure → ℕ → Type 0
+abbrev pub IsSetAside : Assertion → Store → HeapStructure → ℕ → Type 0
 IsSetAside p s m z = IsTrue (m.alloc z) × (IsInside p s m z → ⊥)
 
 -- from m to n a part that meets p under the store s gives way to one that meets q under the store t
-pub record StepsByCall (V : List ℕ) (m n : HeapStructure) (p q : Formula) (s t : Store) : Type 0 where
+pub record StepsByCall (V : List ℕ) (m n : HeapStructure) (p q : Assertion) (s t : Store) : Type 0 where
   pub before : Fits p s m V
   pub after : Fits q t n V
   pub apart : (z : ℕ) → Contains V z → IsSetAside p s m z → IsInside q t n z → ⊥
@@ -56,7 +56,7 @@ pub record IsFreed (h k : Heap) (x : ℕ) : Type 0 where
   pub elsewhere : IsAwayFrom x h k
 
 -- a part that meets p gives way to one that meets q, and the rest stays
-pub record IsCalled (h k : Heap) (p q : Formula) (s t : Store) : Type 0 where
+pub record IsCalled (h k : Heap) (p q : Assertion) (s t : Store) : Type 0 where
   pub given : Heap
   pub back : Heap
   pub rest : Heap

@@ -9,10 +9,12 @@ use Rattle.std.proofs.lemmas.List.Sums.{AllPass-from_list_all}
 use Rattle.gh_base.specs.Names.{is_name_byte}
 use Rattle.gh_base.specs.declared.place.Span.{Span}
 use Rattle.gh_ast.specs.declared.sign.Sign.{Sign}
-use Rattle.gh_ast.specs.declared.sign.Sign.TheVariants.{BraceOpen, BraceClose, ParenOpen, ParenClose, Comma, Semicolon, Colon, Dot, Assign, Equal, Unequal, Bang, And, Or, Star, Arrow}
+use Rattle.gh_ast.specs.declared.sign.Sign.TheVariants.{BraceOpen, BraceClose, ParenOpen, ParenClose, Comma, Semicolon}
+use Rattle.gh_ast.specs.declared.sign.Sign.TheVariants.{Colon, Dot, Assign, Equal, Unequal, Bang, And, Or, Star, Arrow}
 use Rattle.gh_ast.specs.declared.sign.Keyword.{Keyword}
 use Rattle.gh_ast.specs.declared.sign.Keyword.TheVariants as keyword
-use Rattle.gh_ast.specs.Tokens.{Token, cleared, is_blank, is_character, keyword_text, sign_text, IsPiece, a_blank, a_name, a_keyword, a_sign, IsTokens, nothing, piece, HasTokens}
+use Rattle.gh_ast.specs.Tokens.{Token, cleared, is_blank, is_character, keyword_text, sign_text, IsPiece, a_blank}
+use Rattle.gh_ast.specs.Tokens.{a_name, a_keyword, a_sign, IsTokens, nothing, piece, HasTokens}
 use Rattle.gh_ast.specs.Printed.{program_text}
 use Rattle.gh_ast.proofs.Shown.{read_back}
 use Rattle.gh_parse.specs.Parsing.{HasCharacters, PrintedParse}
@@ -70,23 +72,37 @@ keyword_known keyword.Acc = refl
 keyword_known keyword.Lseg = refl
 
 piece_known : {p : Span} {w rest : List ℕ} {us : List Token} → IsPiece p w rest us → AreKnown w
-piece_known (a_blank b is blank) = subst AreKnown (sym is) (AllPass-from_list_all is_character (b ∷ []) (rw (blank_known b blank) refl))
-piece_known {w} (a_name word ends free) = All-weaker (λ b. IsTrue (is_name_byte b)) (λ b. is_character b ≡ true) letter_known w word.letters
-piece_known (a_keyword k is ends) = subst AreKnown (sym is) (AllPass-from_list_all is_character (keyword_text k) (keyword_known k))
-piece_known (a_sign s is longest) = subst AreKnown (sym is) (AllPass-from_list_all is_character (sign_text s) (sign_known s))
+piece_known (a_blank b is blank) =
+    subst AreKnown (sym is) (AllPass-from_list_all is_character (b ∷ []) (rw (blank_known b blank) refl))
+piece_known {w} (a_name word ends free) =
+    All-weaker (λ b. IsTrue (is_name_byte b)) (λ b. is_character b ≡ true) letter_known w word.letters
+piece_known (a_keyword k is ends) =
+    subst AreKnown (sym is) (AllPass-from_list_all is_character (keyword_text k) (keyword_known k))
+piece_known (a_sign s is longest) =
+    subst AreKnown (sym is) (AllPass-from_list_all is_character (sign_text s) (sign_known s))
 
-tokens_known : {p end : Span} {text last : List ℕ} {ts : List Token} → IsTokens p text ts end last → last ≡ [] → AreKnown text
+tokens_known : {p end : Span} {text last : List ℕ} {ts : List Token} → IsTokens p text ts end last → last ≡ []
+    → AreKnown text
 tokens_known nothing none = subst AreKnown (sym none) (AllPass-from_list_all is_character [] refl)
 tokens_known (piece {w} {rest} parts here more all) none =
-    subst AreKnown (sym parts) (All-append (λ b. is_character b ≡ true) w rest (piece_known here) (tokens_known more none))
+    subst AreKnown (sym parts)
+    (All-append (λ b. is_character b ≡ true) w rest (piece_known here) (tokens_known more none))
 
 has_characters : (text : List ℕ) (ts : List Token) → HasTokens text ts → HasCharacters text
 has_characters text ts has k f =
     let within = slice_get_within (cleared text) k f.byte f.here in
     let known = All-get_or (λ b. is_character b ≡ true) (cleared text) k 0 within (tokens_known has.1 refl) in
-    both_ways (is_character f.byte) f.strange (subst (λ b. is_character b ≡ true) (get_or_from_slice_get (cleared text) k f.byte 0 f.here) known)
+    both_ways (is_character f.byte) f.strange
+    (subst (λ b. is_character b ≡ true) (get_or_from_slice_get (cleared text) k f.byte 0 f.here) known)
 
 pub printed_parse : PrintedParse
 printed_parse text p parsed shallow =
-    let again = read_back text p parsed.spelled in
-    (again.0, record { characters = has_characters (program_text p) again.1.0 again.1.1; shallow = shallow; spelled = again.1 }, again.2)
+    let again = read_back text p parsed.spelled in (
+      again.0,
+      record {
+        characters = has_characters (program_text p) again.1.0 again.1.1;
+        shallow = shallow;
+        spelled = again.1;
+      },
+      again.2,
+    )

@@ -1,6 +1,6 @@
 -- Statements that are read one by one.
 use Rattle.std.proofs.Common.{◌≡◌, ◌≤◌, List, [], ◌∷◌, length, refl, ap}
-use Rattle.gh_ast.specs.Plain.{Statement, no_statements, statement_first, statements_of, Part}
+use Rattle.gh_ast.specs.Plain.{Statement, no_statements, statement_first, statements_of, Block}
 use Rattle.gh_ast.specs.Tokens.{Token}
 use Rattle.gh_parse.specs.Stops.{EndsHere}
 use Rattle.gh_parse.specs.Statements.{SpellsRun}
@@ -11,7 +11,7 @@ before-none [] = refl
 before-none (x ∷ xs) = ap (λ z. statement_first x z) (before-none xs)
 
 -- some statements, and then others
-abbrev pub part_before : List Statement → Part → Part
+abbrev pub part_before : List Statement → Block → Block
 part_before xs p = record { statements = before statement_first xs p.statements; close = p.close }
 
 -- the loop over statements

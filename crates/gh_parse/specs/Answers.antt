@@ -13,24 +13,28 @@ use Rattle.gh_parse.specs.declared.error.ReadError.{ReadError}
 use Rattle.gh_parse.specs.declared.error.ReadError.TheVariants.{Unexpected, OutOfMemory}
 use Rattle.gh_parse.specs.Views.{tokens_of}
 use Rattle.gh_parse.specs.declared.cursor.Parser.{Parser}
-use Rattle.gh_parse.specs.declared.cursor.Ahead.{Ahead}
-use Rattle.gh_parse.specs.declared.cursor.Ahead.TheVariants.{Name, Key, Sign, End}
+use Rattle.gh_parse.specs.declared.cursor.LookAhead.{LookAhead}
+use Rattle.gh_parse.specs.declared.cursor.LookAhead.TheVariants.{Name, Key, Sign, End}
 
 -- a token is unexpected exactly where reading stops
-abbrev pub IsRuleRefusal : (List Token → Type 0) → (List Token → List Token → Type 0) → List Token → List Token → ReadError → Type 0
+abbrev pub IsRuleRefusal : (List Token → Type 0) → (List Token → List Token → Type 0) → List Token → List Token
+    → ReadError → Type 0
 IsRuleRefusal Follows P ts left Unexpected = Stops Follows P ts left
 IsRuleRefusal Follows P ts left OutOfMemory = ⊤
 
 -- the answer is what the rule spells at the front, or reading stops where the tokens are left
-abbrev pub IsRuleRead : {X Y : Type 0} → (List Token → Type 0) → (List Token → X → List Token → Type 0) → List Token → (Y → X) → Result Y ReadError → List Token → Type 0
-IsRuleRead Follows P ts view answer left = MatchResult answer (λ y. P ts (view y) left) (IsRuleRefusal Follows (Any P) ts left)
+abbrev pub IsRuleRead : {X Y : Type 0} → (List Token → Type 0) → (List Token → X → List Token → Type 0) → List Token
+    → (Y → X) → Result Y ReadError → List Token → Type 0
+IsRuleRead Follows P ts view answer left =
+    MatchResult answer (λ y. P ts (view y) left) (IsRuleRefusal Follows (Any P) ts left)
 
 -- the tokens that a parser has left
 abbrev pub left_of : Parser → List Token
 left_of parser = tokens_of parser.rest.now
 
 -- the same of what a parser has left before and after
-abbrev pub IsReadBy : {X Y : Type 0} → (List Token → Type 0) → (List Token → X → List Token → Type 0) → Parser → (Y → X) → Result Y ReadError → Parser → Type 0
+abbrev pub IsReadBy : {X Y : Type 0} → (List Token → Type 0) → (List Token → X → List Token → Type 0) → Parser → (Y → X)
+    → Result Y ReadError → Parser → Type 0
 IsReadBy Follows P old view answer new = IsRuleRead Follows P (left_of old) view answer (left_of new)
 
 -- a sign is taken where it is next, and a reserved word likewise
@@ -68,7 +72,7 @@ abbrev pub IsKeyNext : words.Keyword → Parser → Bool → Type 0
 IsKeyNext k parser answer = MatchBool answer (HasKey k (left_of parser)) (NoKey k (left_of parser))
 
 -- the next token is of this kind
-abbrev pub IsAhead : Ahead → List Token → Type 0
+abbrev pub IsAhead : LookAhead → List Token → Type 0
 IsAhead Name ts = (o : Occ) × (rest : List Token) × (ts ≡ named o ∷ rest)
 IsAhead (Key k) ts = HasKey k ts
 IsAhead (Sign s) ts = HasSign s ts
@@ -84,7 +88,8 @@ abbrev pub SpellsComparison : List Token → Bool → List Token → Type 0
 SpellsComparison ts equal rest = (p : Span) × (ts ≡ sign (equality equal) p ∷ rest)
 
 -- what a rule spells, between two signs
-pub record IsBetween {X : Type 0} (opening closing : signs.Sign) (P : List Token → X → List Token → Type 0) (ts : List Token) (x : X) (rest : List Token) : Type 0 where
+pub record IsBetween {X : Type 0} (opening closing : signs.Sign) (P : List Token → X → List Token → Type 0)
+    (ts : List Token) (x : X) (rest : List Token) : Type 0 where
   pub first : Span
   pub last : Span
   pub inner : List Token

@@ -15,7 +15,9 @@ BeginsWith w text = (rest : List ℕ) × (text ≡ w ++ rest)
 
 -- the sign is in front and none longer is; or no sign is
 abbrev pub IsSignFound : List ℕ → Option Sign → Type 0
-IsSignFound text found = MatchOption found ((s : Sign) → BeginsWith (sign_text s) text → ⊥) (λ s. BeginsWith (sign_text s) text × IsLongest s text)
+IsSignFound text found =
+    MatchOption found ((s : Sign) → BeginsWith (sign_text s) text → ⊥)
+    (λ s. BeginsWith (sign_text s) text × IsLongest s text)
 
 -- a comment begins
 abbrev pub IsCommentAhead : List ℕ → Type 0
@@ -41,7 +43,8 @@ pub record IsPieceAhead (text : List ℕ) (p : Piece) : Type 0 where
   pub some : 0 < p.length
   pub within : p.length < 1 + length text
   pub reads : (place : Span)
-      → IsTokens place (cleared text) (tokens_at p.symbol place) (moved_over place (take p.length text)) (cleared (drop p.length text))
+      → IsTokens place (cleared text) (tokens_at p.symbol place) (moved_over place (take p.length text))
+      (cleared (drop p.length text))
 
 -- the tokens at the front of a text, up to a place after which there are none; `whole` says whether the text ends there
 pub record IsLexed (text : List ℕ) (tokens : List Token) (end : Span) (whole : Bool) : Type 0 where

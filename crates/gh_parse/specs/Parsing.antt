@@ -76,7 +76,8 @@ IsScanRefusal text OutOfMemory = ⊤
 
 -- the tokens of the text, or why it has none
 abbrev pub IsScan : List ℕ → Result Lexed ParseError → Type 0
-IsScan text answer = MatchResult answer (λ l. IsScanned text (tokens_of l.tokens.items) l.end l.whole) (IsScanRefusal text)
+IsScan text answer =
+    MatchResult answer (λ l. IsScanned text (tokens_of l.tokens.items) l.end l.whole) (IsScanRefusal text)
 
 -- what is answered for a text by what a rule of the grammar answers for its tokens: a text that isn't all tokens is
 -- refused where they end
@@ -89,4 +90,6 @@ answered whole end left (Err read.OutOfMemory) = Err OutOfMemory
 -- a program that a text can give is given again by its printed text, places aside, where the printed text doesn't
 -- nest too deep
 abbrev pub PrintedParse : Type 0
-PrintedParse = (text : List ℕ) (p : Program) → IsParsed text p → IsShallow (program_text p) → (q : Program) × IsParsed (program_text p) q × (bare_program q ≡ bare_program p)
+PrintedParse =
+    (text : List ℕ) (p : Program) → IsParsed text p → IsShallow (program_text p)
+    → (q : Program) × IsParsed (program_text p) q × (bare_program q ≡ bare_program p)

@@ -8,7 +8,8 @@ use Rattle.gh_ast.specs.declared.sign.Sign.TheVariants as sg
 use Rattle.gh_ast.specs.declared.sign.Keyword.TheVariants as kw
 use Rattle.gh_ast.specs.Plain as plain
 use Rattle.gh_ast.specs.Tokens.{Token, named, key, sign}
-use Rattle.gh_ast.specs.Grammar.{SpellsLocals, SpellsHeader, SpellsResults, SpellsBody, SpellsWord, SpellsFields, SpellsProcedures}
+use Rattle.gh_ast.specs.Grammar.{SpellsLocals, SpellsHeader, SpellsResults, SpellsBody, SpellsWord, SpellsFields}
+use Rattle.gh_ast.specs.Grammar.{SpellsProcedures}
 use Rattle.gh_parse.specs.declared.procedures.Heading.{Heading}
 use Rattle.gh_parse.specs.declared.procedures.Ending.{Ending}
 use Rattle.gh_parse.specs.declared.programs.Fields.{Fields}
@@ -39,11 +40,11 @@ pub record SpellsHeading (ts : List Token) (h : Head) (rest : List Token) : Type
 
 -- a body, or none, and the place of its end
 pub record Ended : Type 0 where
-  pub body : Option plain.Inside
+  pub body : Option plain.Body
   pub close : Span
 
 abbrev pub ended_of : Ending → Ended
-ended_of e = record { body = option_map plain.inside_of e.body; close = e.close }
+ended_of e = record { body = option_map plain.body_of e.body; close = e.close }
 
 abbrev pub SpellsEnded : List Token → Ended → List Token → Type 0
 SpellsEnded ts e rest = SpellsBody ts e.body e.close rest
@@ -77,7 +78,8 @@ abbrev pub SpellsShape : List Token → Shape → List Token → Type 0
 SpellsShape ts s rest = SpellsFields ts s.fields s.close rest
 
 -- what a rule spells of all tokens: none is left
-pub record SpellsToEnd {X : Type 0} (Spells : List Token → X → Type 0) (ts : List Token) (x : X) (rest : List Token) : Type 0 where
+pub record SpellsToEnd {X : Type 0} (Spells : List Token → X → Type 0) (ts : List Token) (x : X)
+    (rest : List Token) : Type 0 where
   pub spelled : Spells ts x
   pub end : rest ≡ []
 

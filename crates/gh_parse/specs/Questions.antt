@@ -15,7 +15,8 @@ pub record IsApart (ts : List Token) : Type 0 where
   pub or : NoSign sg.Or ts
 
 -- what a rule spells, and no token is left
-pub record SpellsWhole {X : Type 0} (P : List Token → X → List Token → Type 0) (ts : List Token) (x : X) (rest : List Token) : Type 0 where
+pub record SpellsWhole {X : Type 0} (P : List Token → X → List Token → Type 0) (ts : List Token) (x : X)
+    (rest : List Token) : Type 0 where
   pub spelled : P ts x rest
   pub end : rest ≡ []
 

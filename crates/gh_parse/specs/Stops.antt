@@ -21,16 +21,19 @@ pub data Seq (A B : List Token → List Token → Type 0) : List Token → List 
   seq : {ts us rest : List Token} → A ts us → B us rest → Seq A B ts rest
 
 -- what follows depends on the value
-pub data Then {X : Type 0} (A : List Token → X → List Token → Type 0) (B : X → List Token → List Token → Type 0) : List Token → List Token → Type 0 where
+pub data Then {X : Type 0} (A : List Token → X → List Token → Type 0) (B : X → List Token → List Token → Type 0) : List
+    Token → List Token → Type 0 where
   and_then : {x : X} {ts us rest : List Token} → A ts x us → B x us rest → Then A B ts rest
 
 -- nothing where none of these tokens is next; else one of them, and then A
-pub data Opt {X : Type 0} (k : X → Token) (A : List Token → List Token → Type 0) : List Token → List Token → Type 0 where
+pub data Opt {X : Type 0} (k : X → Token) (A : List Token → List Token → Type 0) : List Token → List Token
+    → Type 0 where
   without : {rest : List Token} → NoToken k rest → Opt k A rest rest
   with : {p : X} {ts rest : List Token} → A ts rest → Opt k A (k p ∷ ts) rest
 
 -- what ends a list, or a separator and what comes after it
-pub data Tail {X : Type 0} (separator : X → Token) (End A : List Token → List Token → Type 0) : List Token → List Token → Type 0 where
+pub data Tail {X : Type 0} (separator : X → Token) (End A : List Token → List Token → Type 0) : List Token → List Token
+    → Type 0 where
   ended : {ts rest : List Token} → End ts rest → Tail separator End A ts rest
   further : {p : X} {ts rest : List Token} → A ts rest → Tail separator End A (separator p ∷ ts) rest
 
@@ -71,8 +74,10 @@ pub data SameNext : List Token → List Token → Type 0 where
 
 -- reading by the rule P stops where `left` is left: the tokens before it go on to a sentence, before each rest that
 -- may follow; with the next token, or as they stand at the end, they are the front of none
-pub record Stops (Follows : List Token → Type 0) (P : List Token → List Token → Type 0) (ts left : List Token) : Type 0 where
+pub record Stops (Follows : List Token → Type 0) (P : List Token → List Token → Type 0)
+    (ts left : List Token) : Type 0 where
   pub before : List Token
   pub split : ts ≡ before ++ left
-  pub viable : (rest : List Token) → Follows rest → (us : List Token) × IsAlike ts (before ++ us) × P (before ++ us) rest
+  pub viable : (rest : List Token) → Follows rest
+      → (us : List Token) × IsAlike ts (before ++ us) × P (before ++ us) rest
   pub stuck : (us rest : List Token) → SameNext left us → P (before ++ us) rest → ⊥

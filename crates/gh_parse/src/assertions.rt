@@ -4,13 +4,13 @@ ghost use Rattle.std.specs.Prelude.{◌≡◌, ◌<◌, false, IfOk, length, map
 ghost use Rattle.gh_base.specs.declared.place.Span.{Span};
 ghost use Rattle.gh_ast.specs.Tokens.{sign};
 ghost use Rattle.gh_ast.specs.Grammar.{SpellsItem, SpellsAssertion, SpellsAlternatives, SpellsClause, SpellsEnsures};
-ghost use Rattle.gh_ast.specs.Plain.{formula_of};
+ghost use Rattle.gh_ast.specs.Plain.{assertion_of};
 ghost use Rattle.gh_parse.specs.Views.{tokens_of};
 ghost use Rattle.gh_parse.specs.Stops.{EndsHere, IsAny, goes_on};
 ghost use Rattle.gh_parse.specs.Answers.{IsReadBy, IsBetween, IsAhead, HasKey};
 ghost use Rattle.gh_parse.specs.Assertions.{SpellsBraced};
 
-use crate::cursor::{Ahead, Parser, paired};
+use crate::cursor::{LookAhead, Parser, paired};
 use crate::error::ReadError;
 use gh_ast::sign::{Keyword, Sign};
 use gh_ast::{Assertion, Operand};
@@ -19,7 +19,7 @@ use std::alloc::Global;
 impl<'t> Parser<'t> {
     /// Reads an assertion after its word. One that is missing is `emp`.
     pub fn clause(&mut self, alloc: Global, word: Keyword) -> Result<Assertion, ReadError>
-        ensures { IsReadBy EndsHere (SpellsClause word) self.old formula_of result self.new }
+        ensures { IsReadBy EndsHere (SpellsClause word) self.old assertion_of result self.new }
     {
         let Some(_) = self.take_key(word) else {
             return Ok(Assertion::Emp);
@@ -29,7 +29,7 @@ impl<'t> Parser<'t> {
 
     /// Reads what comes after `ensures`, if the word is there: alternatives. Missing ones are `emp` alone.
     pub fn ensured(&mut self, alloc: Global) -> Result<Vec<Assertion>, ReadError>
-        ensures read { IsReadBy EndsHere SpellsEnsures self.old (λ fs. map formula_of fs.items) result self.new }
+        ensures read { IsReadBy EndsHere SpellsEnsures self.old (λ fs. map assertion_of fs.items) result self.new }
         ensures some { IfOk result (λ fs. 0 < length fs.items) }
     {
         let Some(_) = self.take_key(Keyword::Ensures) else {
@@ -42,7 +42,7 @@ impl<'t> Parser<'t> {
 
     // Reads one assertion or more with `||` between two.
     fn alternatives(&mut self, alloc: Global) -> Result<Vec<Assertion>, ReadError>
-        ensures read { IsReadBy EndsHere SpellsAlternatives self.old (λ fs. map formula_of fs.items) result self.new }
+        ensures read { IsReadBy EndsHere SpellsAlternatives self.old (λ fs. map assertion_of fs.items) result self.new }
         ensures some { IfOk result (λ fs. 0 < length fs.items) }
     {
         let mut alternatives = Vec::new(alloc);
@@ -57,7 +57,7 @@ impl<'t> Parser<'t> {
     /// Reads an assertion: items with `&*&` between them.
     #[cycle(assertion)]
     pub fn assertion(&mut self, alloc: Global) -> Result<Assertion, ReadError>
-        ensures { IsReadBy EndsHere SpellsAssertion self.old formula_of result self.new }
+        ensures { IsReadBy EndsHere SpellsAssertion self.old assertion_of result self.new }
     {
         let first = self.item(alloc)?;
         let Some(_) = self.take_sign(Sign::Star) else {
@@ -76,11 +76,11 @@ impl<'t> Parser<'t> {
     // Reads one member of an assertion.
     #[cycle(assertion)]
     fn item(&mut self, alloc: Global) -> Result<Assertion, ReadError>
-        ensures { IsReadBy EndsHere SpellsItem self.old formula_of result self.new }
+        ensures { IsReadBy EndsHere SpellsItem self.old assertion_of result self.new }
     {
         match self.ahead() {
-            Ahead::Name => self.named_item(alloc),
-            Ahead::Key(word) => self.item_by_word(alloc, word),
+            LookAhead::Name => self.named_item(alloc),
+            LookAhead::Key(word) => self.item_by_word(alloc, word),
             _ => self.enclosed_assertion(alloc, Sign::ParenOpen, Sign::ParenClose),
         }
     }
@@ -89,7 +89,7 @@ impl<'t> Parser<'t> {
     #[cycle(assertion)]
     fn item_by_word(&mut self, alloc: Global, word: Keyword) -> Result<Assertion, ReadError>
         requires { HasKey word (tokens_of self.old.rest.now) }
-        ensures { IsReadBy EndsHere SpellsItem self.old formula_of result self.new }
+        ensures { IsReadBy EndsHere SpellsItem self.old assertion_of result self.new }
     {
         match word {
             Keyword::Emp => {
@@ -108,7 +108,7 @@ impl<'t> Parser<'t> {
     #[cycle(assertion)]
     fn cases(&mut self, alloc: Global) -> Result<Assertion, ReadError>
         requires { HasKey Keyword.If (tokens_of self.old.rest.now) }
-        ensures { IsReadBy EndsHere SpellsItem self.old formula_of result self.new }
+        ensures { IsReadBy EndsHere SpellsItem self.old assertion_of result self.new }
     {
         self.expect_key(Keyword::If)?;
         let test = self.enclosed_test(alloc, false)?;
@@ -121,7 +121,7 @@ impl<'t> Parser<'t> {
     // Reads an assertion in braces.
     #[cycle(assertion)]
     fn braced(&mut self, alloc: Global) -> Result<Box<Assertion>, ReadError>
-        ensures { IsReadBy IsAny SpellsBraced self.old (λ b. formula_of b.value) result self.new }
+        ensures { IsReadBy IsAny SpellsBraced self.old (λ b. assertion_of b.value) result self.new }
     {
         let inner = self.enclosed_assertion(alloc, Sign::BraceOpen, Sign::BraceClose)?;
         Ok(Box::new(alloc, inner)?)
@@ -137,7 +137,7 @@ impl<'t> Parser<'t> {
     ) -> Result<Assertion, ReadError>
         requires begins { (p : Span) → goes_on (sign opening p) ≡ false }
         requires ends { (p : Span) → goes_on (sign closing p) ≡ false }
-        ensures { IsReadBy IsAny (IsBetween opening closing SpellsAssertion) self.old formula_of result self.new }
+        ensures { IsReadBy IsAny (IsBetween opening closing SpellsAssertion) self.old assertion_of result self.new }
     {
         self.expect_sign(opening)?;
         let inner = self.assertion(alloc)?;
@@ -147,7 +147,7 @@ impl<'t> Parser<'t> {
     // Reads `acc ( NAME )`.
     fn acc(&mut self, alloc: Global) -> Result<Assertion, ReadError>
         requires { HasKey Keyword.Acc (tokens_of self.old.rest.now) }
-        ensures { IsReadBy EndsHere SpellsItem self.old formula_of result self.new }
+        ensures { IsReadBy EndsHere SpellsItem self.old assertion_of result self.new }
     {
         self.expect_key(Keyword::Acc)?;
         self.expect_sign(Sign::ParenOpen)?;
@@ -159,7 +159,7 @@ impl<'t> Parser<'t> {
     // Reads `lseg ( operand , operand )`.
     fn lseg(&mut self, alloc: Global) -> Result<Assertion, ReadError>
         requires { HasKey Keyword.Lseg (tokens_of self.old.rest.now) }
-        ensures { IsReadBy EndsHere SpellsItem self.old formula_of result self.new }
+        ensures { IsReadBy EndsHere SpellsItem self.old assertion_of result self.new }
     {
         self.expect_key(Keyword::Lseg)?;
         self.expect_sign(Sign::ParenOpen)?;
@@ -172,8 +172,8 @@ impl<'t> Parser<'t> {
 
     // Reads a cell or a comparison that begins with a name.
     fn named_item(&mut self, alloc: Global) -> Result<Assertion, ReadError>
-        requires { IsAhead Ahead.Name (tokens_of self.old.rest.now) }
-        ensures { IsReadBy EndsHere SpellsItem self.old formula_of result self.new }
+        requires { IsAhead LookAhead.Name (tokens_of self.old.rest.now) }
+        ensures { IsReadBy EndsHere SpellsItem self.old assertion_of result self.new }
     {
         let at = self.expect_name(alloc)?;
         if let Some(_) = self.take_sign(Sign::Dot) {
@@ -194,7 +194,7 @@ impl<'t> Parser<'t> {
     // Reads a comparison that begins with `null`.
     fn null_item(&mut self, alloc: Global) -> Result<Assertion, ReadError>
         requires { HasKey Keyword.Null (tokens_of self.old.rest.now) }
-        ensures { IsReadBy EndsHere SpellsItem self.old formula_of result self.new }
+        ensures { IsReadBy EndsHere SpellsItem self.old assertion_of result self.new }
     {
         let span = self.expect_key(Keyword::Null)?;
         let equal = self.comparison_sign()?;

@@ -1,8 +1,8 @@
 //! Tests.
 
 ghost use Rattle.gh_ast.specs.declared.sign.Sign.TheVariants.{ParenOpen, ParenClose, Bang};
-ghost use Rattle.gh_ast.specs.Grammar.{SpellsLit, SpellsConj, SpellsTest, NoSign};
-ghost use Rattle.gh_ast.specs.Plain.{test_of};
+ghost use Rattle.gh_ast.specs.Grammar.{SpellsLit, SpellsConj, SpellsCond, NoSign};
+ghost use Rattle.gh_ast.specs.Plain.{cond_of};
 ghost use Rattle.gh_parse.specs.Views.{tokens_of};
 ghost use Rattle.gh_parse.specs.Stops.{EndsHere};
 ghost use Rattle.gh_parse.specs.Answers.{IsReadBy, IsBetween, SpellsComparison};
@@ -18,7 +18,7 @@ impl<'t> Parser<'t> {
     /// `reads` says so.
     #[cycle(condition)]
     pub fn test(&mut self, alloc: Global, reads: bool) -> Result<Cond, ReadError>
-        ensures { IsReadBy EndsHere (SpellsTest reads) self.old test_of result self.new }
+        ensures { IsReadBy EndsHere (SpellsCond reads) self.old cond_of result self.new }
     {
         let first = self.conjunction(alloc, reads)?;
         let Some(_) = self.take_sign(Sign::Or) else {
@@ -37,7 +37,7 @@ impl<'t> Parser<'t> {
     // Reads literals with `&&` between them.
     #[cycle(condition)]
     fn conjunction(&mut self, alloc: Global, reads: bool) -> Result<Cond, ReadError>
-        ensures { IsReadBy EndsHere (SpellsConj reads) self.old test_of result self.new }
+        ensures { IsReadBy EndsHere (SpellsConj reads) self.old cond_of result self.new }
     {
         let first = self.literal(alloc, reads)?;
         let Some(_) = self.take_sign(Sign::And) else {
@@ -56,7 +56,7 @@ impl<'t> Parser<'t> {
     // Reads a comparison, or a test in brackets that may be denied.
     #[cycle(condition)]
     fn literal(&mut self, alloc: Global, reads: bool) -> Result<Cond, ReadError>
-        ensures { IsReadBy EndsHere (SpellsLit reads) self.old test_of result self.new }
+        ensures { IsReadBy EndsHere (SpellsLit reads) self.old cond_of result self.new }
     {
         if self.is_sign(Sign::ParenOpen) {
             return self.enclosed_test(alloc, reads);
@@ -71,8 +71,8 @@ impl<'t> Parser<'t> {
     /// Reads a test in round brackets.
     #[cycle(condition)]
     pub fn enclosed_test(&mut self, alloc: Global, reads: bool) -> Result<Cond, ReadError>
-        ensures { IsReadBy EndsHere (IsBetween ParenOpen ParenClose (SpellsTest reads))
-            self.old test_of result self.new }
+        ensures { IsReadBy EndsHere (IsBetween ParenOpen ParenClose (SpellsCond reads))
+            self.old cond_of result self.new }
     {
         self.expect_sign(Sign::ParenOpen)?;
         let test = self.test(alloc, reads)?;
@@ -83,7 +83,7 @@ impl<'t> Parser<'t> {
     fn equation(&mut self, alloc: Global, reads: bool) -> Result<Cond, ReadError>
         requires plain { NoSign Bang (tokens_of self.old.rest.now) }
         requires bare { NoSign ParenOpen (tokens_of self.old.rest.now) }
-        ensures { IsReadBy EndsHere (SpellsLit reads) self.old test_of result self.new }
+        ensures { IsReadBy EndsHere (SpellsLit reads) self.old cond_of result self.new }
     {
         let left = self.expr(alloc, reads)?;
         let equal = self.comparison_sign()?;

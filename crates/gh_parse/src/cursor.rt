@@ -3,7 +3,8 @@
 ghost use Rattle.std.specs.Prelude.{◌≡◌, IfNone, IfOk, MatchResult, Ok, Err};
 ghost use Rattle.gh_ast.specs.Tokens.{named, key, sign};
 ghost use Rattle.gh_parse.specs.Views.{tokens_of};
-ghost use Rattle.gh_parse.specs.Answers.{TakesKind, IsSignTaken, IsKeyTaken, IsAhead, IsSignNext, IsKeyNext, next_place};
+ghost use Rattle.gh_parse.specs.Answers.{TakesKind, IsSignTaken, IsKeyTaken, IsAhead, IsSignNext, IsKeyNext};
+ghost use Rattle.gh_parse.specs.Answers.{next_place};
 
 use crate::error::ReadError;
 use crate::token::{Symbol, Token};
@@ -15,7 +16,7 @@ use std::alloc::Global;
 
 /// What the next token is.
 #[derive(Clone, Copy)]
-pub enum Ahead {
+pub enum LookAhead {
     Name,
     Key(Keyword),
     Sign(Sign),
@@ -41,15 +42,15 @@ pub fn paired<A: Drop, B: Drop>(first: A, second: Result<B, ReadError>) -> Resul
 
 impl<'t> Parser<'t> {
     /// What the next token is.
-    pub fn ahead(&self) -> Ahead
+    pub fn ahead(&self) -> LookAhead
         ensures { IsAhead result (tokens_of self.now.rest.now) }
     {
         match self.rest {
-            [] => Ahead::End,
+            [] => LookAhead::End,
             [first, ..] => match first.symbol {
-                Symbol::Name(_) => Ahead::Name,
-                Symbol::Key(k) => Ahead::Key(k),
-                Symbol::Sign(s) => Ahead::Sign(s),
+                Symbol::Name(_) => LookAhead::Name,
+                Symbol::Key(k) => LookAhead::Key(k),
+                Symbol::Sign(s) => LookAhead::Sign(s),
             },
         }
     }
@@ -105,7 +106,7 @@ impl<'t> Parser<'t> {
         ensures { IsSignNext wanted self.now result }
     {
         match self.ahead() {
-            Ahead::Sign(s) => s == wanted,
+            LookAhead::Sign(s) => s == wanted,
             _ => false,
         }
     }
@@ -115,7 +116,7 @@ impl<'t> Parser<'t> {
         ensures { IsKeyNext wanted self.now result }
     {
         match self.ahead() {
-            Ahead::Key(k) => k == wanted,
+            LookAhead::Key(k) => k == wanted,
             _ => false,
         }
     }

@@ -1,7 +1,7 @@
 //! Procedures.
 
-ghost use Rattle.gh_ast.specs.Grammar.{SpellsInside, SpellsParams, SpellsHeader, SpellsResults, SpellsProcedure};
-ghost use Rattle.gh_ast.specs.Plain.{inside_of, procedure_of};
+ghost use Rattle.gh_ast.specs.Grammar.{SpellsOpenBody, SpellsParams, SpellsHeader, SpellsResults, SpellsProcedure};
+ghost use Rattle.gh_ast.specs.Plain.{body_of, procedure_of};
 ghost use Rattle.gh_parse.specs.Stops.{EndsHere};
 ghost use Rattle.gh_parse.specs.Answers.{IsReadBy};
 ghost use Rattle.gh_parse.specs.Procedures.{AddsLocals, SpellsHeading, heading_of, SpellsEnded, ended_of};
@@ -47,7 +47,7 @@ impl<'t> Parser<'t> {
 
     /// Reads declarations, statements and the brace after them.
     pub fn inside(&mut self, alloc: Global) -> Result<Body, ReadError>
-        ensures { IsReadBy EndsHere SpellsInside self.old inside_of result self.new }
+        ensures { IsReadBy EndsHere SpellsOpenBody self.old body_of result self.new }
     {
         let mut locals = Vec::new(alloc);
         'declarations: while self.is_key(Keyword::Var) {

@@ -1,11 +1,11 @@
 //! Statements and blocks.
 
 ghost use Rattle.gh_ast.specs.Grammar.{SpellsStatement};
-ghost use Rattle.gh_ast.specs.Plain.{statement_of, part_of};
+ghost use Rattle.gh_ast.specs.Plain.{statement_of, block_of};
 ghost use Rattle.gh_parse.specs.Views.{tokens_of};
 ghost use Rattle.gh_parse.specs.Stops.{EndsHere};
 ghost use Rattle.gh_parse.specs.Answers.{IsReadBy, HasKey};
-ghost use Rattle.gh_parse.specs.Statements.{SpellsPart, SpellsOtherwise, SpellsRepeated, repeat_of, SpellsRun};
+ghost use Rattle.gh_parse.specs.Statements.{SpellsWholeBlock, SpellsOtherwise, SpellsRepeated, repeat_of, SpellsRun};
 
 use crate::cursor::{Parser, paired};
 use crate::error::ReadError;
@@ -65,7 +65,7 @@ impl<'t> Parser<'t> {
     // Reads `else` and the block after it. Where the word is missing, the block is empty and closes at the place.
     #[cycle(statement)]
     fn otherwise(&mut self, alloc: Global, close: Span) -> Result<Block, ReadError>
-        ensures { IsReadBy EndsHere (SpellsOtherwise close) self.old part_of result self.new }
+        ensures { IsReadBy EndsHere (SpellsOtherwise close) self.old block_of result self.new }
     {
         if !self.is_key(Keyword::Else) {
             return Ok(Block {
@@ -128,7 +128,7 @@ impl<'t> Parser<'t> {
     /// Reads statements up to a brace that closes, and the brace.
     #[cycle(statement)]
     pub fn statements(&mut self, alloc: Global) -> Result<Block, ReadError>
-        ensures { IsReadBy EndsHere SpellsRun self.old part_of result self.new }
+        ensures { IsReadBy EndsHere SpellsRun self.old block_of result self.new }
     {
         let mut statements = Vec::new(alloc);
         'run: while !self.is_sign(Sign::BraceClose) {
@@ -141,7 +141,7 @@ impl<'t> Parser<'t> {
     /// Reads statements between braces.
     #[cycle(statement)]
     pub fn block(&mut self, alloc: Global) -> Result<Block, ReadError>
-        ensures { IsReadBy EndsHere SpellsPart self.old part_of result self.new }
+        ensures { IsReadBy EndsHere SpellsWholeBlock self.old block_of result self.new }
     {
         self.expect_sign(Sign::BraceOpen)?;
         self.statements(alloc)

@@ -11,17 +11,20 @@ use Rattle.gh_path.proofs.ListLemmas.{same_some, no_some}
 use Rattle.gh_path.proofs.CalleeLemmas.{number_in, number_here, number_later}
 use Rattle.gh_path.proofs.LoopVariables.{assigns_is, assigns_true}
 
-one_later : (p : Procedure) (ps : List Procedure) (f : Name) → (name_of p ≡ f → ⊥) → number_in (p ∷ ps) f ≡ suc (number_in ps f)
+one_later : (p : Procedure) (ps : List Procedure) (f : Name) → (name_of p ≡ f → ⊥)
+    → number_in (p ∷ ps) f ≡ suc (number_in ps f)
 one_later p ps f other = omega (arith, number_later p ps f other)
 
-first_at : (ps : List Procedure) (f : Name) (p : Procedure) → IsFirstNamed ps f p → slice_get ps (number_in ps f) ≡ Some p
+first_at : (ps : List Procedure) (f : Name) (p : Procedure) → IsFirstNamed ps f p
+    → slice_get ps (number_in ps f) ≡ Some p
 first_at [] f p is = absurd is
 first_at (q ∷ qs) f p is = elim is [
   | inl (named, same) ↦ ap (slice_get (q ∷ qs)) (number_here q qs f named) ∙ ap Some (sym same)
   | inr (other, more) ↦ ap (slice_get (q ∷ qs)) (one_later q qs f other) ∙ first_at qs f p more
 ]
 
-at_first : (ps : List Procedure) (f : Name) (p : Procedure) → slice_get ps (number_in ps f) ≡ Some p → IsFirstNamed ps f p
+at_first : (ps : List Procedure) (f : Name) (p : Procedure) → slice_get ps (number_in ps f) ≡ Some p
+    → IsFirstNamed ps f p
 at_first [] f p at = absurd (no_some p at)
 at_first (q ∷ qs) f p at = elim (cases_Bool (bytes_eq (name_of q) f)) [
   | inl on ↦

@@ -14,7 +14,8 @@ use Rattle.gh_path.specs.declared.walk.Walk.{Walk}
 use Rattle.gh_path.proofs.ListLemmas.{first_of, rest_of}
 
 -- the k-th item is the condition of number k + 1
-pub given_next : (P : Program) (s t : Walk) (k : ℕ) (r : kept.Condition) → IsWalkBefore P s (drop k (conditions P)) → IsGiven s (Some (Ok r)) t →
+pub given_next : (P : Program) (s t : Walk) (k : ℕ) (r : kept.Condition) → IsWalkBefore P s (drop k (conditions P))
+    → IsGiven s (Some (Ok r)) t →
     IsNumbered P (k + 1) (Some r) × IsWalkBefore P t (drop (k + 1) (conditions P))
 given_next P s t k r before given =
     let item = given P (drop k (conditions P)) before in
@@ -27,31 +28,36 @@ given_next P s t k r before given =
     )
 
 -- an item comes as long as there are conditions
-pub given_none : (P : Program) (s t : Walk) (k : ℕ) → IsWalkBefore P s (drop k (conditions P)) → k < length (conditions P) → IsGiven s None t → ⊥
+pub given_none : (P : Program) (s t : Walk) (k : ℕ) → IsWalkBefore P s (drop k (conditions P))
+    → k < length (conditions P) → IsGiven s None t → ⊥
 given_none P s t k before less given =
     let item = given P (drop k (conditions P)) before in
     let empty : length (drop k (conditions P)) ≡ 0 = ap length item.1.0 in
     omega (arith, empty, length-drop k (conditions P), less)
 
 -- a condition is lent: it is the one at the place k, and those after it are still to come
-lent_next : (P : Program) (s t : Walk) (k : ℕ) (o : Result Bool AllocError) (more : Bool) → o ≡ Ok more → more ≡ true → IsWalkBefore P s (drop k (conditions P)) → Lends s o t →
+lent_next : (P : Program) (s t : Walk) (k : ℕ) (o : Result Bool AllocError) (more : Bool) → o ≡ Ok more → more ≡ true
+    → IsWalkBefore P s (drop k (conditions P)) → Lends s o t →
     IsNumbered P (k + 1) (Some t.condition) × IsWalkBefore P t (drop (k + 1) (conditions P))
 lent_next P s t k o more was is before came =
     let lends : Lends s (Ok more) t = subst (λ (q : Result Bool AllocError). Lends s q t) was came in
     given_next P s t k t.condition before (subst (λ (b : Bool). Lends s (Ok b) t) is lends)
 
-pub lent_one : (P : Program) (s t : Walk) (k : ℕ) (o : Result Bool AllocError) (more : Bool) (r : kept.Condition) → o ≡ Ok more → more ≡ true → r ≡ t.condition →
+pub lent_one : (P : Program) (s t : Walk) (k : ℕ) (o : Result Bool AllocError) (more : Bool) (r : kept.Condition)
+    → o ≡ Ok more → more ≡ true → r ≡ t.condition →
     IsWalkBefore P s (drop k (conditions P)) → Lends s o t → IsNumbered P (k + 1) (Some r)
 lent_one P s t k o more r was is same before came =
     let next = lent_next P s t k o more was is before came in
     subst (λ (q : kept.Condition). IsNumbered P (k + 1) (Some q)) (sym same) next.0
 
-pub lent_on : (P : Program) (s t : Walk) (k : ℕ) (o : Result Bool AllocError) (more : Bool) → o ≡ Ok more → more ≡ true → IsWalkBefore P s (drop k (conditions P)) → Lends s o t →
+pub lent_on : (P : Program) (s t : Walk) (k : ℕ) (o : Result Bool AllocError) (more : Bool) → o ≡ Ok more → more ≡ true
+    → IsWalkBefore P s (drop k (conditions P)) → Lends s o t →
     IsWalkBefore P t (drop (k + 1) (conditions P))
 lent_on P s t k o more was is before came = (lent_next P s t k o more was is before came).1
 
 -- one is lent as long as there are conditions
-pub lent_none : (P : Program) (s t : Walk) (k : ℕ) (o : Result Bool AllocError) (more : Bool) → o ≡ Ok more → more ≡ false → IsWalkBefore P s (drop k (conditions P)) → k < length (conditions P) →
+pub lent_none : (P : Program) (s t : Walk) (k : ℕ) (o : Result Bool AllocError) (more : Bool) → o ≡ Ok more
+    → more ≡ false → IsWalkBefore P s (drop k (conditions P)) → k < length (conditions P) →
     Lends s o t → ⊥
 lent_none P s t k o more was is before less came =
     let lends : Lends s (Ok more) t = subst (λ (q : Result Bool AllocError). Lends s q t) was came in

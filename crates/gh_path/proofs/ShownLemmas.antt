@@ -24,11 +24,13 @@ pub shows_more : (ns ms : List Node) (i : ℕ) (g : Graph) → Shows ns i g → 
 shows_more ns ms i dead_end h = got_more ns ms i DeadEnd h
 shows_more ns ms i (ends c) (a, at, is) = (a, got_more ns ms i (Ends a) at, is)
 shows_more ns ms i (moves x g) (s, j, at, is, on) = (s, j, got_more ns ms i (Moves s j) at, is, shows_more ns ms j g on)
-shows_more ns ms i (guarded c x g) (a, s, j, at, asked, is, on) = (a, s, j, got_more ns ms i (Guarded a s j) at, asked, is, shows_more ns ms j g on)
+shows_more ns ms i (guarded c x g) (a, s, j, at, asked, is, on) =
+    (a, s, j, got_more ns ms i (Guarded a s j) at, asked, is, shows_more ns ms j g on)
 shows_more ns ms i (fork l e r g k) (a, b, j, m, at, left, right, one, two) =
     (a, b, j, m, got_more ns ms i (Fork a e b j m) at, left, right, shows_more ns ms j g one, shows_more ns ms m k two)
 
-added : (old new : List Node) (n : Node) (i : ℕ) (g : Graph) → new ≡ old ++ n ∷ [] → i ≡ length old → Shows (old ++ n ∷ []) (length old) g → AddsNodes old new i g
+added : (old new : List Node) (n : Node) (i : ℕ) (g : Graph) → new ≡ old ++ n ∷ [] → i ≡ length old
+    → Shows (old ++ n ∷ []) (length old) g → AddsNodes old new i g
 added old new n i g is place shows = record {
   more = n ∷ [];
   is = is;
@@ -38,25 +40,38 @@ added old new n i g is place shows = record {
 pub add_dead : (old new : List Node) (i : ℕ) → new ≡ old ++ DeadEnd ∷ [] → i ≡ length old → AddsNodes old new i dead_end
 add_dead old new i is place = added old new DeadEnd i dead_end is place (at_end old DeadEnd)
 
-pub add_end : (old new : List Node) (i : ℕ) (a : Asked) (c : Check) → new ≡ old ++ Ends a ∷ [] → i ≡ length old → asked_of a ≡ c → AddsNodes old new i (ends c)
+pub add_end : (old new : List Node) (i : ℕ) (a : Asked) (c : Check) → new ≡ old ++ Ends a ∷ [] → i ≡ length old
+    → asked_of a ≡ c → AddsNodes old new i (ends c)
 add_end old new i a c is place asked = added old new (Ends a) i (ends c) is place (a, at_end old (Ends a), asked)
 
-pub add_move : (old new : List Node) (i j : ℕ) (s : Step) (x : PathStep) (g : Graph) → new ≡ old ++ Moves s j ∷ [] → i ≡ length old → step_shown s ≡ x → Shows old j g → AddsNodes old new i (moves x g)
+pub add_move : (old new : List Node) (i j : ℕ) (s : Step) (x : PathStep) (g : Graph) → new ≡ old ++ Moves s j ∷ []
+    → i ≡ length old → step_shown s ≡ x → Shows old j g → AddsNodes old new i (moves x g)
 add_move old new i j s x g is place shown on =
     added old new (Moves s j) i (moves x g) is place
     (s, j, at_end old (Moves s j), shown, shows_more old (Moves s j ∷ []) j g on)
 
-pub add_guard : (old new : List Node) (i j : ℕ) (a : Asked) (s : Step) (c : Check) (x : PathStep) (g : Graph) → new ≡ old ++ Guarded a s j ∷ [] → i ≡ length old
+pub add_guard : (old new : List Node) (i j : ℕ) (a : Asked) (s : Step) (c : Check) (x : PathStep) (g : Graph)
+    → new ≡ old ++ Guarded a s j ∷ [] → i ≡ length old
     → asked_of a ≡ c → step_shown s ≡ x → Shows old j g → AddsNodes old new i (guarded c x g)
 add_guard old new i j a s c x g is place asked shown on =
     added old new (Guarded a s j) i (guarded c x g) is place
     (a, s, j, at_end old (Guarded a s j), asked, shown, shows_more old (Guarded a s j ∷ []) j g on)
 
-pub add_fork : (old new : List Node) (i j m : ℕ) (l r : Bor Expr) (e : Bool) (g k : Graph) → new ≡ old ++ Fork l e r j m ∷ [] → i ≡ length old
+pub add_fork : (old new : List Node) (i j m : ℕ) (l r : Bor Expr) (e : Bool) (g k : Graph)
+    → new ≡ old ++ Fork l e r j m ∷ [] → i ≡ length old
     → Shows old j g → Shows old m k → AddsNodes old new i (fork l.now e r.now g k)
 add_fork old new i j m l r e g k is place one two =
-    added old new (Fork l e r j m) i (fork l.now e r.now g k) is place
-    (l, r, j, m, at_end old (Fork l e r j m), refl, refl, shows_more old (Fork l e r j m ∷ []) j g one, shows_more old (Fork l e r j m ∷ []) m k two)
+    added old new (Fork l e r j m) i (fork l.now e r.now g k) is place (
+      l,
+      r,
+      j,
+      m,
+      at_end old (Fork l e r j m),
+      refl,
+      refl,
+      shows_more old (Fork l e r j m ∷ []) j g one,
+      shows_more old (Fork l e r j m ∷ []) m k two,
+    )
 
 -- nothing is added
 pub here : (ns : List Node) (i : ℕ) (g : Graph) → Shows ns i g → AddsNodes ns ns i g

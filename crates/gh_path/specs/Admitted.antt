@@ -66,8 +66,10 @@ pub data IsFirstLimit (P : Program) (l : Limit) : Type 0 where
   of_text : IsLimit P l → IsFirstLimit P l
   paths : KeepsLimits P → Passed P (HasManyPaths P) 4 (most_conditions + 1) l → IsFirstLimit P l
   steps : KeepsLimits P → NoneHas P (HasManyPaths P) → Passed P (HasManySteps P) 5 (most_steps + 1) l → IsFirstLimit P l
-  terms : KeepsLimits P → NoneHas P (HasManyPaths P) → NoneHas P (HasManySteps P) → Passed P (HasManyTerms P) 6 (most_terms + 1) l → IsFirstLimit P l
-  versions : KeepsLimits P → NoneHas P (HasManyPaths P) → NoneHas P (HasManySteps P) → NoneHas P (HasManyTerms P) → Passed P (HasManyVersions P) 7 (most_versions + 1) l → IsFirstLimit P l
+  terms : KeepsLimits P → NoneHas P (HasManyPaths P) → NoneHas P (HasManySteps P)
+      → Passed P (HasManyTerms P) 6 (most_terms + 1) l → IsFirstLimit P l
+  versions : KeepsLimits P → NoneHas P (HasManyPaths P) → NoneHas P (HasManySteps P) → NoneHas P (HasManyTerms P)
+      → Passed P (HasManyVersions P) 7 (most_versions + 1) l → IsFirstLimit P l
 
 -- no rule is broken, and no counted quantity passes its limit
 pub record IsAdmitted (P : Program) : Type 0 where

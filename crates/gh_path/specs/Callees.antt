@@ -1,5 +1,5 @@
 -- Procedures that calls name.
-use Rattle.gh_ast.specs.Plain.{Statement, call, choice, loop, Statements, no_statements, statement_first, Program}
+use Rattle.gh_ast.specs.Plain.{Statement, call, if, while, Statements, no_statements, statement_first, Program}
 use Rattle.gh_ast.specs.Programs.{Name}
 use Rattle.gh_path.specs.Graphs.{number_of, HasProcedure}
 
@@ -11,8 +11,8 @@ abbrev mutual
   -- each call in a statement names a procedure
   pub CallsAreKnown : Program → Statement → Type 0
   CallsAreKnown P (call xs f es) = IsKnown P f.name
-  CallsAreKnown P (choice t a c b d) = AllCallsAreKnown P a × AllCallsAreKnown P b
-  CallsAreKnown P (loop at t i body close) = AllCallsAreKnown P body
+  CallsAreKnown P (if t a c b d) = AllCallsAreKnown P a × AllCallsAreKnown P b
+  CallsAreKnown P (while at t i body close) = AllCallsAreKnown P body
   CallsAreKnown P d = Unit {0}
 
   pub AllCallsAreKnown : Program → Statements → Type 0

@@ -2,8 +2,8 @@
 use Rattle.std.specs.Prelude.{◌≡◌, ◌⊎◌, ℕ, suc, ◌-◌, ◌<◌, ◌≤◌, List, [], ◌∷◌, ◌++◌, length, map, Some, slice_get, All}
 use Rattle.std.specs.Prelude.{Contains}
 use Rattle.gh_ast.specs.Plain.{Procedure, Program}
-use Rattle.gh_path.specs.Graphs.{Start, whole_body, round, starts, PathStep, called, looped, Check, entry, loop_entry}
-use Rattle.gh_path.specs.Graphs.{loop_end, graph_from, HasLoop, IsProcedureAt, HasProcedure}
+use Rattle.gh_path.specs.Graphs.{Start, at_entry, at_loop, starts, PathStep, call_step, while_step, Check, callee_entry}
+use Rattle.gh_path.specs.Graphs.{loop_entry, loop_end, graph_from, HasLoop, IsProcedureAt, HasProcedure}
 use Rattle.gh_path.specs.Paths.{Path, Way, ways}
 
 -- a start of a procedure and a way from it
@@ -54,16 +54,16 @@ IsOf P c proc = IsProcedureAt P c.procedure proc
 
 -- the numbers of a start, a step and a check are those of a loop of the procedure, or of a procedure of the program
 abbrev pub StartIsThere : Procedure → Start → Type 0
-StartIsThere p whole_body = Unit {0}
-StartIsThere p (round n) = HasLoop p n
+StartIsThere p at_entry = Unit {0}
+StartIsThere p (at_loop n) = HasLoop p n
 
 abbrev pub StepIsThere : Program → Procedure → PathStep → Type 0
-StepIsThere P proc (called xs n es) = HasProcedure P n
-StepIsThere P proc (looped n) = HasLoop proc n
+StepIsThere P proc (call_step xs n es) = HasProcedure P n
+StepIsThere P proc (while_step n) = HasLoop proc n
 StepIsThere P proc s = Unit {0}
 
 abbrev pub CheckIsThere : Program → Procedure → Check → Type 0
-CheckIsThere P proc (entry at n es) = HasProcedure P n
+CheckIsThere P proc (callee_entry at n es) = HasProcedure P n
 CheckIsThere P proc (loop_entry at n) = HasLoop proc n
 CheckIsThere P proc (loop_end at n) = HasLoop proc n
 CheckIsThere P proc c = Unit {0}

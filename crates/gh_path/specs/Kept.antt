@@ -2,8 +2,9 @@
 use Rattle.std.specs.Prelude.{map, Contains}
 use Rattle.gh_base.specs.declared.place.Span.{Span}
 use Rattle.gh_ast.specs.Plain.{Procedure, Program}
-use Rattle.gh_path.specs.Graphs.{Check, access, entry, loop_entry, returned, loop_end, PathStep, accessed, assume}
-use Rattle.gh_path.specs.Graphs.{assigned, made, written, freed, called, looped, answered, Start, whole_body, round}
+use Rattle.gh_path.specs.Graphs.{Check, access, callee_entry, loop_entry, return_check, loop_end, PathStep, access_step}
+use Rattle.gh_path.specs.Graphs.{assume_step, set_step, new_step, write_step, free_step, call_step, while_step}
+use Rattle.gh_path.specs.Graphs.{return_step, Start, at_entry, at_loop}
 use Rattle.gh_path.specs.Conditions.{Condition, conditions, IsOf, IsThere}
 use Rattle.gh_path.specs.declared.condition.PathStep as kept_step
 use Rattle.gh_path.specs.declared.condition.PathStep.TheVariants as step
@@ -15,26 +16,26 @@ use Rattle.gh_path.specs.declared.condition.Check as kept_check
 use Rattle.gh_path.specs.declared.condition.Condition as kept_condition
 
 abbrev pub step_of : kept_step.PathStep → PathStep
-step_of (step.Access x) = accessed x
-step_of (step.Assume l e r) = assume l e r
-step_of (step.Set x e) = assigned x e
-step_of (step.Write x e) = written x e
-step_of (step.New x) = made x
-step_of (step.Free x) = freed x
-step_of (step.Call xs n es) = called xs.items n es.items
-step_of (step.Loop n) = looped n
-step_of (step.Return es) = answered es.items
+step_of (step.Access x) = access_step x
+step_of (step.Assume l e r) = assume_step l e r
+step_of (step.Set x e) = set_step x e
+step_of (step.Write x e) = write_step x e
+step_of (step.New x) = new_step x
+step_of (step.Free x) = free_step x
+step_of (step.Call xs n es) = call_step xs.items n es.items
+step_of (step.Loop n) = while_step n
+step_of (step.Return es) = return_step es.items
 
 abbrev pub start_of : kept_start.Start → Start
-start_of start.Entry = whole_body
-start_of (start.Loop n) = round n
+start_of start.Entry = at_entry
+start_of (start.Loop n) = at_loop n
 
 -- what is asked at a place
 abbrev pub asked_at : kept_kind.CheckKind → Span → Check
 asked_at (kind.Access x) at = access (record { name = x; span = at })
-asked_at (kind.CalleeEntry n es) at = entry at n es.items
+asked_at (kind.CalleeEntry n es) at = callee_entry at n es.items
 asked_at (kind.LoopEntry n) at = loop_entry at n
-asked_at kind.Return at = returned at
+asked_at kind.Return at = return_check at
 asked_at (kind.LoopEnd n) at = loop_end at n
 
 abbrev pub check_of : kept_check.Check → Check

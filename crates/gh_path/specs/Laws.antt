@@ -28,7 +28,8 @@ AllAreListed = (P : Program) (c : Condition) → Contains (conditions P) c ↔ I
 
 -- the numbers of a typed program's condition are those of its procedures and of loops of the condition's procedure
 abbrev pub NumbersAreThere : Type 0
-NumbersAreThere = (P : Program) (c : Condition) (proc : Procedure) → IsTyped P → IsCondition P c → IsOf P c proc → IsThere P proc c
+NumbersAreThere =
+    (P : Program) (c : Condition) (proc : Procedure) → IsTyped P → IsCondition P c → IsOf P c proc → IsThere P proc c
 
 -- the conditions of two small programs stand where one expects them
 pub record ExamplesHold : Type 0 where
@@ -37,7 +38,8 @@ pub record ExamplesHold : Type 0 where
 
 -- the number that a call has is that of the procedure which it means
 abbrev pub CalleesAreNumbered : Type 0
-CalleesAreNumbered = (P : Program) (f : Name) (proc : Procedure) → IsProcedureAt P (number_of P f) proc ↔ Declares P f proc
+CalleesAreNumbered =
+    (P : Program) (f : Name) (proc : Procedure) → IsProcedureAt P (number_of P f) proc ↔ Declares P f proc
 
 -- the walk's test of assigned variables decides which variables a statement assigns
 abbrev pub AssignsDecides : Type 0

@@ -16,5 +16,7 @@ IsStepsLimit P ps o = MatchOption o (NoneOf ps (HasManySteps P)) (FirstOf ps (Ha
 
 -- a procedure with too many conditions; where there is none, a path with too many steps; memory may run out at any time
 abbrev pub IsConditionsRefusal : Program → ConditionsError → Type 0
-IsConditionsRefusal P (Limit l) = Passed P (HasManyPaths P) 4 (most_conditions + 1) l ⊎ (NoneHas P (HasManyPaths P) × Passed P (HasManySteps P) 5 (most_steps + 1) l)
+IsConditionsRefusal P (Limit l) =
+    Passed P (HasManyPaths P) 4 (most_conditions + 1) l
+    ⊎ (NoneHas P (HasManyPaths P) × Passed P (HasManySteps P) 5 (most_steps + 1) l)
 IsConditionsRefusal P OutOfMemory = ⊤

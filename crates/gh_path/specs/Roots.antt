@@ -1,7 +1,7 @@
 -- The starts of a program in order, each with its first node.
 use Rattle.std.specs.Prelude.{◌≡◌, ◌≤◌, ◌+◌, ℕ, List, [], ◌∷◌, ◌++◌, map, length, drop, Option, Some, None}
 use Rattle.gh_ast.specs.Plain.{Procedure, Program}
-use Rattle.gh_path.specs.Graphs.{Graph, Loop, Start, whole_body, round, graph_from, IsProcedureAt, IsLoopAt}
+use Rattle.gh_path.specs.Graphs.{Graph, While, Start, at_entry, at_loop, graph_from, IsProcedureAt, IsLoopAt}
 use Rattle.gh_path.specs.Paths.{Way, ways}
 use Rattle.gh_path.specs.Conditions.{Condition, condition, course, courses_of}
 use Rattle.gh_path.specs.Kept.{start_of}
@@ -11,7 +11,7 @@ use Rattle.gh_path.specs.declared.node.Node.{Node}
 use Rattle.gh_path.specs.declared.starts.Root.{Root}
 use Rattle.gh_path.specs.declared.starts.Sought.{Sought}
 use Rattle.gh_path.specs.declared.starts.Starts.{Starts}
-use Rattle.gh_path.specs.declared.walker.Walker.{Walker}
+use Rattle.gh_path.specs.declared.lowering.Lowering.{Lowering}
 
 -- the conditions of some ways from a start of the procedure of the number n
 abbrev pub on_ways : ℕ → Start → List Way → List Condition
@@ -61,21 +61,22 @@ IsSought P s cs n (Some f) = (ds : List Condition) × AreFrom P s f ds × IsAfte
 abbrev pub IsSoughtIn : Starts → ℕ → Option Sought → Type 0
 IsSoughtIn s n found = (P : Program) (cs : List Condition) → AreStarts P s cs → IsSought P s cs n found
 
--- where the walker's procedure has the number n, conditions are added to those of the starts
-abbrev pub AddsConditions : Walker → ℕ → List Condition → Starts → Starts → Type 0
+-- where the lowering's procedure has the number n, conditions are added to those of the starts
+abbrev pub AddsConditions : Lowering → ℕ → List Condition → Starts → Starts → Type 0
 AddsConditions w n ds old new = (cs : List Condition) → AreStarts (program_in w) old cs →
     IsProcedureAt (program_in w) n (procedure_in w) → AreStarts (program_in w) new (cs ++ ds)
 
 -- all of the procedure
-abbrev pub AddsProcedure : Walker → ℕ → Starts → Starts → Type 0
+abbrev pub AddsProcedure : Lowering → ℕ → Starts → Starts → Type 0
 AddsProcedure w n old new =
     AddsConditions w n (map (condition n) (courses_of (program_in w) (procedure_in w))) old new
 
 -- those from its entry
-abbrev pub AddsEntry : Walker → ℕ → Starts → Starts → Type 0
-AddsEntry w n old new = AddsConditions w n (from_start (program_in w) (procedure_in w) n whole_body) old new
+abbrev pub AddsEntry : Lowering → ℕ → Starts → Starts → Type 0
+AddsEntry w n old new = AddsConditions w n (from_start (program_in w) (procedure_in w) n at_entry) old new
 
 -- those from its loop l of the number k
-abbrev pub AddsLoop : Walker → ℕ → ℕ → Loop → Starts → Starts → Type 0
+abbrev pub AddsLoop : Lowering → ℕ → ℕ → While → Starts → Starts → Type 0
 AddsLoop w n k l old new =
-    IsLoopAt (procedure_in w) k l → AddsConditions w n (from_start (program_in w) (procedure_in w) n (round k)) old new
+    IsLoopAt (procedure_in w) k l
+    → AddsConditions w n (from_start (program_in w) (procedure_in w) n (at_loop k)) old new

@@ -4,9 +4,9 @@ use Rattle.std.specs.Prelude.{Some, Bool, true, false, not}
 use denote.Ref.{Bor}
 use Rattle.gh_base.specs.declared.place.Span.{Span}
 use Rattle.gh_ast.specs.declared.Expr.{Expr}
-use Rattle.gh_path.specs.Graphs.{Check, access, entry, loop_entry, returned, loop_end, PathStep, accessed}
-use Rattle.gh_path.specs.Graphs.{assume, assigned, made, written, freed, called, looped, answered, Graph, dead_end}
-use Rattle.gh_path.specs.Graphs.{ends, moves, guarded, fork}
+use Rattle.gh_path.specs.Graphs.{Check, access, callee_entry, loop_entry, return_check, loop_end, PathStep, access_step}
+use Rattle.gh_path.specs.Graphs.{assume_step, set_step, new_step, write_step, free_step, call_step, while_step}
+use Rattle.gh_path.specs.Graphs.{return_step, Graph, dead_end, ends, moves, guarded, fork}
 use Rattle.gh_path.specs.Kept.{step_of, asked_at, check_of}
 use Rattle.gh_path.specs.declared.condition.PathStep as kept_step
 use Rattle.gh_path.specs.declared.condition.CheckKind as kept_kind
@@ -22,22 +22,22 @@ use Rattle.gh_path.specs.declared.node.Origin.{Origin}
 
 -- a step as the text has it, seen as one of the definitions
 abbrev pub step_shown : Step → PathStep
-step_shown (step.Access x) = accessed x.now
-step_shown (step.Assume l e r) = assume l.now e r.now
-step_shown (step.Set x e) = assigned x.now e.now
-step_shown (step.Write x e) = written x.now e.now
-step_shown (step.New x) = made x.now
-step_shown (step.Free x) = freed x.now
-step_shown (step.Call xs n es) = called xs.now n es.now
-step_shown (step.Loop n) = looped n
-step_shown (step.Return es) = answered es.now
+step_shown (step.Access x) = access_step x.now
+step_shown (step.Assume l e r) = assume_step l.now e r.now
+step_shown (step.Set x e) = set_step x.now e.now
+step_shown (step.Write x e) = write_step x.now e.now
+step_shown (step.New x) = new_step x.now
+step_shown (step.Free x) = free_step x.now
+step_shown (step.Call xs n es) = call_step xs.now n es.now
+step_shown (step.Loop n) = while_step n
+step_shown (step.Return es) = return_step es.now
 
 -- what is asked at a place
 abbrev pub goal_at : Goal → Span → Check
 goal_at (goal.Access x) at = access (record { name = x.now; span = at })
-goal_at (goal.CalleeEntry n es) at = entry at n es.now
+goal_at (goal.CalleeEntry n es) at = callee_entry at n es.now
 goal_at (goal.LoopEntry n) at = loop_entry at n
-goal_at goal.Return at = returned at
+goal_at goal.Return at = return_check at
 goal_at (goal.LoopEnd n) at = loop_end at n
 
 abbrev pub asked_of : Asked → Check
@@ -128,7 +128,8 @@ abbrev pub AreHeld : List Node → List Origin → List kept_step.PathStep → T
 AreHeld ns os rs = map step_of rs ≡ steps_from ns os
 
 -- where the steps rs come from the origins os, the steps qs come from the origins ps
-abbrev pub KeepsHeld : List Node → List Origin → List kept_step.PathStep → List Origin → List kept_step.PathStep → Type 0
+abbrev pub KeepsHeld : List Node → List Origin → List kept_step.PathStep → List Origin → List kept_step.PathStep
+    → Type 0
 KeepsHeld ns os rs ps qs = AreHeld ns os rs → AreHeld ns ps qs
 
 -- an origin stands at the place i, after those that stood before it

@@ -1,5 +1,5 @@
 -- The terms of a condition, in order of first appearance, and its heap versions.
--- A number that no procedure or loop has (`None` of `Option Procedure` or `Option Loop`) is in no condition of a typed
+-- A number that no procedure or loop has (`None` of `Option Procedure` or `Option While`) is in no condition of a typed
 -- program, so what is said of it doesn't matter.
 use Rattle.std.specs.Prelude.{ℕ, ◌+◌, List, [], ◌∷◌, ◌++◌, length, map, filter, count_by, position, Option, Some, None}
 use Rattle.std.specs.Prelude.{Bool, true, false, ◌==◌, ◌||◌, ◌&&◌, unwrap_or, cond, slice_get}
@@ -9,17 +9,18 @@ use Rattle.gh_ast.specs.declared.Operand.{Operand}
 use Rattle.gh_ast.specs.declared.Operand.TheVariants.{Null, Var}
 use Rattle.gh_ast.specs.declared.Expr.{Expr}
 use Rattle.gh_ast.specs.declared.Expr.TheVariants.{Plain, Read}
-use Rattle.gh_ast.specs.Plain.{Test, compare, negation, conjunction, disjunction, Tests, no_tests, test_first}
-use Rattle.gh_ast.specs.Plain.{Formula, empty, comparison, points_to, cell, segment, star, cases, Formulas, no_formulas}
-use Rattle.gh_ast.specs.Plain.{formula_first}
-use Rattle.gh_ast.specs.Plain.{Statement, set, new, call, choice, loop, Statements, no_statements, statement_first}
-use Rattle.gh_ast.specs.Plain.{Procedure, Program}
+use Rattle.gh_ast.specs.Plain.{Cond, compare, negation, conjunction, disjunction, Conds, no_conds, cond_first}
+use Rattle.gh_ast.specs.Plain.{Assertion, empty, comparison, points_to, cell, segment, star, cases, Assertions}
+use Rattle.gh_ast.specs.Plain.{no_assertions, assertion_first, Statement, set, new, call, if, while, Statements}
+use Rattle.gh_ast.specs.Plain.{no_statements, statement_first, Procedure, Program}
 use Rattle.gh_ast.specs.Programs.{Name, names, parameters_of, results_of, variable_names}
-use Rattle.gh_path.specs.Graphs.{Check, access, entry, loop_entry, returned, loop_end, PathStep, accessed, assume}
-use Rattle.gh_path.specs.Graphs.{assigned, made, written, freed, called, looped, answered, Loop, loops_of, Start, meets_at}
+use Rattle.gh_path.specs.Graphs.{Check, access, callee_entry, loop_entry, return_check, loop_end, PathStep, access_step}
+use Rattle.gh_path.specs.Graphs.{assume_step, set_step, new_step, write_step, free_step, call_step, while_step}
+use Rattle.gh_path.specs.Graphs.{return_step, While, loops_of, Start, meets_at}
 use Rattle.gh_path.specs.Paths.{Way}
 
--- null; the value of a number: that of a variable, or of a new cell's place or content; `next i x`: the successor of the
+-- null; the value of a number: that of a variable, or of a new cell's place or content; `next i x`: the successor of
+-- the
 -- term x in the version i of the heap
 pub data Kind : Type 0 where
   null : Kind
@@ -109,33 +110,33 @@ exprs_used (e ∷ es) s = exprs_used es (expr_used e s)
 
 -- a test is walked from left to right
 abbrev mutual
-  pub test_walked : Test → Terms → Terms
-  test_walked (compare l e r) s = expr_used r (expr_used l s)
-  test_walked (negation t) s = test_walked t s
-  test_walked (conjunction ts) s = tests_walked ts s
-  test_walked (disjunction ts) s = tests_walked ts s
+  pub cond_walked : Cond → Terms → Terms
+  cond_walked (compare l e r) s = expr_used r (expr_used l s)
+  cond_walked (negation t) s = cond_walked t s
+  cond_walked (conjunction ts) s = conds_walked ts s
+  cond_walked (disjunction ts) s = conds_walked ts s
 
-  pub tests_walked : Tests → Terms → Terms
-  tests_walked no_tests s = s
-  tests_walked (test_first t ts) s = tests_walked ts (test_walked t s)
+  pub conds_walked : Conds → Terms → Terms
+  conds_walked no_conds s = s
+  conds_walked (cond_first t ts) s = conds_walked ts (cond_walked t s)
 
 -- an assertion is walked from left to right, a test of cases before both parts; a cell's successor is a term
 abbrev mutual
-  pub walked : Formula → Terms → Terms
+  pub walked : Assertion → Terms → Terms
   walked empty s = s
   walked (comparison l e r) s = operand_used r (operand_used l s)
   walked (points_to x y) s = operand_used y (followed x.name (used x.name s))
   walked (cell x) s = followed x.name (used x.name s)
   walked (segment x y) s = operand_used y (operand_used x s)
   walked (star fs) s = all_walked fs s
-  walked (cases t f g) s = walked g (walked f (test_walked t s))
+  walked (cases t f g) s = walked g (walked f (cond_walked t s))
 
-  pub all_walked : Formulas → Terms → Terms
-  all_walked no_formulas s = s
-  all_walked (formula_first f fs) s = all_walked fs (walked f s)
+  pub all_walked : Assertions → Terms → Terms
+  all_walked no_assertions s = s
+  all_walked (assertion_first f fs) s = all_walked fs (walked f s)
 
 -- alternatives are walked in order
-abbrev pub each_walked : List Formula → Terms → Terms
+abbrev pub each_walked : List Assertion → Terms → Terms
 each_walked [] s = s
 each_walked (f ∷ fs) s = each_walked fs (walked f s)
 
@@ -157,8 +158,8 @@ abbrev mutual
   assigns (set x e) y = bytes_eq y x.name
   assigns (new x) y = bytes_eq y x.name
   assigns (call xs f es) y = list_any (bytes_eq y) (names xs)
-  assigns (choice t a c b d) y = some_assigns a y || some_assigns b y
-  assigns (loop at t i body close) y = some_assigns body y
+  assigns (if t a c b d) y = some_assigns a y || some_assigns b y
+  assigns (while at t i body close) y = some_assigns body y
   assigns _ y = false
 
   pub some_assigns : Statements → Name → Bool
@@ -185,22 +186,25 @@ exprs_terms es s = map (λ e. expr_term e s) es
 
 -- the loop's invariant is walked; then, in the next version, those of the variables xs that its body assigns get new
 -- values, and the invariant is walked again
-abbrev pub loop_walked : Option Loop → List Name → Terms → Terms
+abbrev pub loop_walked : Option While → List Name → Terms → Terms
 loop_walked None xs s = s
-loop_walked (Some l) xs s = walked l.invariant (renewed (filter (some_assigns l.body) xs) (moved_on (walked l.invariant s)))
+loop_walked (Some l) xs s =
+    walked l.invariant (renewed (filter (some_assigns l.body) xs) (moved_on (walked l.invariant s)))
 
 -- the terms after a step of a path of the procedure proc
 abbrev pub step_walked : Program → Procedure → PathStep → Terms → Terms
-step_walked P proc (accessed o) s = followed o.name (used o.name s)
-step_walked P proc (assume l e r) s = expr_used r (expr_used l s)
-step_walked P proc (assigned x e) s = let t = expr_used e s in rebound t (bound t.bindings x.name (expr_term e t))
-step_walked P proc (made x) s =
+step_walked P proc (access_step o) s = followed o.name (used o.name s)
+step_walked P proc (assume_step l e r) s = expr_used r (expr_used l s)
+step_walked P proc (set_step x e) s = let t = expr_used e s in rebound t (bound t.bindings x.name (expr_term e t))
+step_walked P proc (new_step x) s =
     terms (with_value (with_value s.kinds)) (bound s.bindings x.name (length s.kinds)) (s.version + 1)
-step_walked P proc (written x e) s = moved_on (expr_used e (used x.name s))
-step_walked P proc (freed x) s = moved_on (used x.name s)
-step_walked P proc (called ys n es) s = let t = exprs_used es s in call_walked (slice_get P.procedures n) (names ys) (exprs_terms es t) t
-step_walked P proc (looped n) s = loop_walked (slice_get (loops_of proc) n) (variable_names proc) s
-step_walked P proc (answered es) s = let t = exprs_used es s in rebound t (all_bound t.bindings (results_of proc) (exprs_terms es t))
+step_walked P proc (write_step x e) s = moved_on (expr_used e (used x.name s))
+step_walked P proc (free_step x) s = moved_on (used x.name s)
+step_walked P proc (call_step ys n es) s = let t = exprs_used es s in
+    call_walked (slice_get P.procedures n) (names ys) (exprs_terms es t) t
+step_walked P proc (while_step n) s = loop_walked (slice_get (loops_of proc) n) (variable_names proc) s
+step_walked P proc (return_step es) s = let t = exprs_used es s in
+    rebound t (all_bound t.bindings (results_of proc) (exprs_terms es t))
 
 abbrev pub steps_walked : Program → Procedure → List PathStep → Terms → Terms
 steps_walked P proc [] s = s
@@ -210,16 +214,17 @@ abbrev pub entry_walked : Option Procedure → List ℕ → Terms → Terms
 entry_walked None ts s = s
 entry_walked (Some p) ts s = walked p.needs (rebound s (bound_inside p ts))
 
-abbrev pub invariant_walked : Option Loop → Terms → Terms
+abbrev pub invariant_walked : Option While → Terms → Terms
 invariant_walked None s = s
 invariant_walked (Some l) s = walked l.invariant s
 
 -- the terms of the check, in the last version
 abbrev pub check_walked : Program → Procedure → Check → Terms → Terms
 check_walked P proc (access o) s = used o.name s
-check_walked P proc (entry at n es) s = let t = exprs_used es s in entry_walked (slice_get P.procedures n) (exprs_terms es t) t
+check_walked P proc (callee_entry at n es) s = let t = exprs_used es s in
+    entry_walked (slice_get P.procedures n) (exprs_terms es t) t
 check_walked P proc (loop_entry at n) s = invariant_walked (slice_get (loops_of proc) n) s
-check_walked P proc (returned at) s = each_walked proc.gives s
+check_walked P proc (return_check at) s = each_walked proc.gives s
 check_walked P proc (loop_end at n) s = invariant_walked (slice_get (loops_of proc) n) s
 
 -- null alone, no variable with a term, the first version

@@ -92,7 +92,8 @@ IsItem cs (Some (Err e)) ds = (cs ≢ []) × (ds ≡ [])
 -- one item more
 abbrev pub IsGiven : Walk → Option (Result kept.Condition AllocError) → Walk → Type 0
 IsGiven s r t =
-    (P : Program) (cs : List Condition) → IsWalkBefore P s cs → (ds : List Condition) × IsItem cs r ds × IsWalkBefore P t ds
+    (P : Program) (cs : List Condition) → IsWalkBefore P s cs
+    → (ds : List Condition) × IsItem cs r ds × IsWalkBefore P t ds
 
 -- an item that is lent: the condition itself, none, or an error
 abbrev pub lent : Result Bool AllocError → kept.Condition → Option (Result kept.Condition AllocError)

@@ -2,9 +2,9 @@
 //! walk over the paths.
 
 ghost use Rattle.std.specs.Prelude.{◌≡◌};
-ghost use Rattle.gh_ast.specs.Plain.{test_of, tests_view, statement_of, statements_view};
+ghost use Rattle.gh_ast.specs.Plain.{cond_of, conds_view, statement_of, statements_view};
 ghost use Rattle.gh_path.specs.Counting.{nothing, one_end, stepped, checked, either, before_read, before_reads};
-ghost use Rattle.gh_path.specs.Counting.{before_test, before_all, before_some, before, before_block};
+ghost use Rattle.gh_path.specs.Counting.{before_cond, before_all, before_some, before, before_block};
 
 use gh_ast::{Cond, Expr, Stmt};
 
@@ -20,31 +20,31 @@ pub const MOST_STEPS: u32 = 256;
 /// more than the number of steps of the longest path, up to two past `MOST_STEPS`, and 0 where
 /// there is no path.
 #[derive(Clone, Copy, Debug, PartialEq, Eq)]
-pub struct Ahead {
+pub struct PathCounts {
     pub count: u32,
     pub reach: u32,
 }
 
-impl Ahead {
-    /// Ahead of a dead end.
-    pub fn nothing() -> Ahead
+impl PathCounts {
+    /// PathCounts of a dead end.
+    pub fn nothing() -> PathCounts
         ensures { result ≡ nothing }
     {
-        Ahead { count: 0, reach: 0 }
+        PathCounts { count: 0, reach: 0 }
     }
 
-    /// Ahead of an end, with its check.
-    pub fn one_end() -> Ahead
+    /// PathCounts of an end, with its check.
+    pub fn one_end() -> PathCounts
         ensures { result ≡ one_end }
     {
-        Ahead { count: 1, reach: 1 }
+        PathCounts { count: 1, reach: 1 }
     }
 
     /// With a step before it.
-    pub fn stepped(self) -> Ahead
+    pub fn stepped(self) -> PathCounts
         ensures { result ≡ stepped self }
     {
-        Ahead {
+        PathCounts {
             count: self.count,
             reach: self
                 .reach
@@ -54,20 +54,20 @@ impl Ahead {
     }
 
     /// With a check before it.
-    pub fn checked(self) -> Ahead
+    pub fn checked(self) -> PathCounts
         ensures { result ≡ checked self }
     {
-        Ahead {
+        PathCounts {
             count: self.count.saturating_add(1).min(MOST_CONDITIONS + 1),
             reach: self.reach.max(1),
         }
     }
 
     /// This or the other.
-    pub fn either(self, other: Ahead) -> Ahead
+    pub fn either(self, other: PathCounts) -> PathCounts
         ensures { result ≡ either self other }
     {
-        Ahead {
+        PathCounts {
             count: self
                 .count
                 .saturating_add(other.count)
@@ -77,8 +77,8 @@ impl Ahead {
     }
 }
 
-/// Ahead of an expression's read.
-pub fn before_read(expr: &Expr, after: Ahead) -> Ahead
+/// PathCounts of an expression's read.
+pub fn before_read(expr: &Expr, after: PathCounts) -> PathCounts
     ensures { result ≡ before_read expr.now after }
 {
     match expr {
@@ -87,8 +87,8 @@ pub fn before_read(expr: &Expr, after: Ahead) -> Ahead
     }
 }
 
-/// Ahead of the reads of some expressions.
-pub fn before_reads(exprs: &[Expr], after: Ahead) -> Ahead
+/// PathCounts of the reads of some expressions.
+pub fn before_reads(exprs: &[Expr], after: PathCounts) -> PathCounts
     ensures { result ≡ before_reads exprs.now after }
 {
     let mut ahead = after;
@@ -100,52 +100,52 @@ pub fn before_reads(exprs: &[Expr], after: Ahead) -> Ahead
     ahead
 }
 
-/// Ahead of a test that leads to one of two places.
+/// PathCounts of a test that leads to one of two places.
 #[cycle(test_ahead)]
-pub fn before_test(test: &Cond, yes: Ahead, no: Ahead) -> Ahead
-    ensures { result ≡ before_test (test_of test.now) yes no }
+pub fn before_cond(test: &Cond, yes: PathCounts, no: PathCounts) -> PathCounts
+    ensures { result ≡ before_cond (cond_of test.now) yes no }
 {
     match test {
         Cond::Compare { left, right, .. } => {
             before_read(left, before_read(right, yes.stepped().either(no.stepped())))
         }
-        Cond::Not(inner) => before_test(inner, no, yes),
+        Cond::Not(inner) => before_cond(inner, no, yes),
         Cond::And(members) => before_all(members.as_slice(), yes, no),
         Cond::Or(members) => before_some(members.as_slice(), yes, no),
     }
 }
 
-/// Ahead of tests that have all to be true.
+/// PathCounts of tests that have all to be true.
 #[cycle(test_ahead)]
-pub fn before_all(tests: &[Cond], yes: Ahead, no: Ahead) -> Ahead
-    ensures { result ≡ before_all (tests_view tests.now) yes no }
+pub fn before_all(tests: &[Cond], yes: PathCounts, no: PathCounts) -> PathCounts
+    ensures { result ≡ before_all (conds_view tests.now) yes no }
 {
     let mut ahead = yes;
     let mut left = tests.len();
     while left > 0 {
         left -= 1;
-        ahead = before_test(&tests[left], ahead, no);
+        ahead = before_cond(&tests[left], ahead, no);
     }
     ahead
 }
 
-/// Ahead of tests of which one has to be true.
+/// PathCounts of tests of which one has to be true.
 #[cycle(test_ahead)]
-pub fn before_some(tests: &[Cond], yes: Ahead, no: Ahead) -> Ahead
-    ensures { result ≡ before_some (tests_view tests.now) yes no }
+pub fn before_some(tests: &[Cond], yes: PathCounts, no: PathCounts) -> PathCounts
+    ensures { result ≡ before_some (conds_view tests.now) yes no }
 {
     let mut ahead = no;
     let mut left = tests.len();
     while left > 0 {
         left -= 1;
-        ahead = before_test(&tests[left], yes, ahead);
+        ahead = before_cond(&tests[left], yes, ahead);
     }
     ahead
 }
 
-/// Ahead of a statement.
+/// PathCounts of a statement.
 #[cycle(block_ahead)]
-fn before(statement: &Stmt, after: Ahead) -> Ahead
+fn before(statement: &Stmt, after: PathCounts) -> PathCounts
     ensures { result ≡ before (statement_of statement.now) after }
 {
     match statement {
@@ -160,23 +160,23 @@ fn before(statement: &Stmt, after: Ahead) -> Ahead
             test,
             taken,
             otherwise,
-        } => before_test(
+        } => before_cond(
             test,
             before_block(taken.statements.as_slice(), after),
             before_block(otherwise.statements.as_slice(), after),
         ),
-        Stmt::While { test, .. } => before_test(test, Ahead::nothing(), after)
+        Stmt::While { test, .. } => before_cond(test, PathCounts::nothing(), after)
             .stepped()
             .checked(),
         Stmt::Return { values, .. } => {
-            before_reads(values.as_slice(), Ahead::one_end().stepped())
+            before_reads(values.as_slice(), PathCounts::one_end().stepped())
         }
     }
 }
 
-/// Ahead of some statements.
+/// PathCounts of some statements.
 #[cycle(block_ahead)]
-pub fn before_block(statements: &[Stmt], after: Ahead) -> Ahead
+pub fn before_block(statements: &[Stmt], after: PathCounts) -> PathCounts
     ensures { result ≡ before_block (statements_view statements.now) after }
 {
     let mut ahead = after;

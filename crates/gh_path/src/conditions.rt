@@ -10,7 +10,7 @@ ghost use Rattle.gh_path.specs.Counting.{procedure_ahead};
 ghost use Rattle.gh_path.specs.Roots.{AreStarts};
 ghost use Rattle.gh_path.specs.Walks.{IsWalkBefore};
 
-use crate::ahead::Ahead;
+use crate::ahead::PathCounts;
 use crate::condition::Condition;
 use crate::limits::count_all;
 use crate::starts::Starts;
@@ -46,7 +46,7 @@ impl<'t> Model for Conditions<'t> {
 impl<'t> Conditions<'t> {
     /// The conditions of a program, by what lies ahead of the starts of each procedure, and by the
     /// nodes of these.
-    pub(crate) fn new(typed: &'t Typed, aheads: &[Ahead], starts: Starts<'t>) -> Conditions<'t>
+    pub(crate) fn new(typed: &'t Typed, aheads: &[PathCounts], starts: Starts<'t>) -> Conditions<'t>
         requires few { AreFew (program_of typed.now) }
         requires counts { aheads.now ≡ map procedure_ahead (program_of typed.now).procedures }
         requires paths { NoneHas (program_of typed.now) (HasManyPaths (program_of typed.now)) }

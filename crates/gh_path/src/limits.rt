@@ -5,12 +5,12 @@ ghost use Rattle.gh_ast.specs.Plain.{Program, procedure_of};
 ghost use Rattle.gh_path.specs.Counting.{procedure_ahead, all_counts};
 ghost use Rattle.gh_path.specs.Refusals.{IsPathsLimit, IsStepsLimit};
 
-use crate::ahead::{Ahead, MOST_CONDITIONS, MOST_STEPS};
+use crate::ahead::{MOST_CONDITIONS, MOST_STEPS, PathCounts};
 use gh_ast::Procedure;
 use gh_ast::typed::Limit;
 
 /// The limit on the conditions of a procedure, where it is passed.
-pub fn paths_limit(procedures: &[Procedure], aheads: &[Ahead]) -> Option<Limit>
+pub fn paths_limit(procedures: &[Procedure], aheads: &[PathCounts]) -> Option<Limit>
     requires { aheads.now ≡ map procedure_ahead (map procedure_of procedures.now) }
     ensures { (P : Program) → IsPathsLimit P (map procedure_of procedures.now) result }
 {
@@ -27,7 +27,7 @@ pub fn paths_limit(procedures: &[Procedure], aheads: &[Ahead]) -> Option<Limit>
 }
 
 /// The limit on the steps of a condition, where it is passed.
-pub fn steps_limit(procedures: &[Procedure], aheads: &[Ahead]) -> Option<Limit>
+pub fn steps_limit(procedures: &[Procedure], aheads: &[PathCounts]) -> Option<Limit>
     requires { aheads.now ≡ map procedure_ahead (map procedure_of procedures.now) }
     ensures { (P : Program) → IsStepsLimit P (map procedure_of procedures.now) result }
 {
@@ -44,7 +44,7 @@ pub fn steps_limit(procedures: &[Procedure], aheads: &[Ahead]) -> Option<Limit>
 }
 
 /// How many conditions there are together, counted up to the greatest `u32`.
-pub fn count_all(aheads: &[Ahead]) -> u32
+pub fn count_all(aheads: &[PathCounts]) -> u32
     ensures { result ≡ min (all_counts aheads.now) 4294967295 }
 {
     let mut count = 0u32;

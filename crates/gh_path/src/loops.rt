@@ -2,7 +2,7 @@
 
 ghost use Rattle.std.specs.Prelude.{◌≡◌, map, min, length, IfOk};
 ghost use Rattle.gh_ast.specs.Plain.{statement_of, statements_view, procedure_of};
-ghost use Rattle.gh_ast.specs.Programs.{body_of};
+ghost use Rattle.gh_ast.specs.Programs.{body_statements};
 ghost use Rattle.gh_path.specs.Graphs.{loops, all_loops, loops_of};
 ghost use Rattle.gh_path.specs.Walking.{loop_of, AddsLoops};
 
@@ -65,7 +65,7 @@ fn add_all_loops<'t>(statements: &'t [Stmt], found: &mut Vec<While<'t>>) -> Resu
 
 /// The statements of a procedure's body.
 pub fn statements_of(procedure: &Procedure) -> &[Stmt]
-    ensures { statements_view result.now ≡ body_of (procedure_of procedure.now) }
+    ensures { statements_view result.now ≡ body_statements (procedure_of procedure.now) }
 {
     match &procedure.body {
         Some(body) => body.block.statements.as_slice(),

@@ -1,16 +1,16 @@
 //! Nodes for expressions and tests. They are made from the end of a body on.
 
 ghost use Rattle.std.specs.Prelude.{◌<◌, length, IfOk};
-ghost use Rattle.gh_ast.specs.Plain.{test_of, tests_view};
+ghost use Rattle.gh_ast.specs.Plain.{cond_of, conds_view};
 ghost use Rattle.gh_path.specs.Graphs.{visits, reads, all_reads, tested, all_tested, some_tested};
 ghost use Rattle.gh_path.specs.Lowered.{Grows, AddsBefore, AddsChoice};
 
+use crate::lowering::Lowering;
 use crate::node::{Asked, Goal, Node, Nodes, Step};
-use crate::walker::Walker;
 use gh_ast::{Cond, Expr, Occ};
 use std::alloc::AllocError;
 
-impl<'t> Walker<'t> {
+impl<'t> Lowering<'t> {
     /// An access before a node.
     pub(crate) fn lower_visit(
         &self,
@@ -98,7 +98,7 @@ impl<'t> Walker<'t> {
         requires yes { yes < length nodes.now }
         requires no { no < length nodes.now }
         ensures grows { IfOk result (Grows nodes.old nodes.new) }
-        ensures adds { IfOk result (AddsChoice (tested (test_of test.now)) nodes.old yes no nodes.new) }
+        ensures adds { IfOk result (AddsChoice (tested (cond_of test.now)) nodes.old yes no nodes.new) }
     {
         match test {
             Cond::Compare { left, equal, right } => {
@@ -130,7 +130,7 @@ impl<'t> Walker<'t> {
         requires yes { yes < length nodes.now }
         requires no { no < length nodes.now }
         ensures grows { IfOk result (Grows nodes.old nodes.new) }
-        ensures adds { IfOk result (AddsChoice (all_tested (tests_view tests.now)) nodes.old yes no nodes.new) }
+        ensures adds { IfOk result (AddsChoice (all_tested (conds_view tests.now)) nodes.old yes no nodes.new) }
     {
         let mut place = yes;
         let mut left = tests.len();
@@ -153,7 +153,7 @@ impl<'t> Walker<'t> {
         requires yes { yes < length nodes.now }
         requires no { no < length nodes.now }
         ensures grows { IfOk result (Grows nodes.old nodes.new) }
-        ensures adds { IfOk result (AddsChoice (some_tested (tests_view tests.now)) nodes.old yes no nodes.new) }
+        ensures adds { IfOk result (AddsChoice (some_tested (conds_view tests.now)) nodes.old yes no nodes.new) }
     {
         let mut place = no;
         let mut left = tests.len();

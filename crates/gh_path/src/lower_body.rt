@@ -1,15 +1,15 @@
 //! Nodes for statements, and the starts of a procedure.
 
 ghost use Rattle.std.specs.Prelude.{◌≡◌, ◌<◌, length, slice_index, IfOk};
-ghost use Rattle.gh_ast.specs.Plain.{statement_of, statements_view, set, new, write, free, call, give};
+ghost use Rattle.gh_ast.specs.Plain.{statement_of, statements_view, set, new, write, free, call, return};
 ghost use Rattle.gh_ast.specs.Limits.{AreFew};
 ghost use Rattle.gh_path.specs.Callees.{IsKnown};
 ghost use Rattle.gh_path.specs.Lowered.{program_in, Suits, AllSuit, EachSuits, SuitEach, SuitsAt};
 ghost use Rattle.gh_path.specs.Lowered.{Grows, AddsPlain, AddsEnd, AddsPass, AddsStatement, AddsBlock, AreFirstLoops};
 
 use crate::loops::{count_all_loops, count_loops};
+use crate::lowering::Lowering;
 use crate::node::{Asked, Goal, Node, Nodes, Step};
-use crate::walker::Walker;
 use gh_ast::{Cond, Expr, Occ, Stmt};
 use gh_base::place::Span;
 use std::alloc::{AllocError, Global};
@@ -28,7 +28,7 @@ fn first_loops(alloc: Global, statements: &[Stmt], first: u32) -> Result<Vec<u32
     Ok(numbers)
 }
 
-impl<'t> Walker<'t> {
+impl<'t> Lowering<'t> {
     /// The number of the first loop of the statement at a place.
     fn number_at(&self, statements: &[Stmt], numbers: &[u32], place: usize) -> u32
         requires within { place < length statements.now }
@@ -145,7 +145,7 @@ impl<'t> Walker<'t> {
         nodes: &mut Nodes<'t>,
     ) -> Result<usize, AllocError>
         ensures grows { IfOk result (Grows nodes.old nodes.new) }
-        ensures adds { IfOk result (AddsEnd self.now (give span values.now) nodes.old nodes.new) }
+        ensures adds { IfOk result (AddsEnd self.now (return span values.now) nodes.old nodes.new) }
     {
         let goal = Goal::Return;
         let end = nodes.add(Node::Ends {

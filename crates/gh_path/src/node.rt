@@ -3,7 +3,7 @@
 ghost use Rattle.std.specs.Prelude.{◌≡◌, ◌+◌, ◌∷◌, ◌++◌, [], length, slice_get, slice_index_or, Some, IfOk, OnOk};
 ghost use Rattle.gh_path.specs.Shown.{KeepsStep, KeepsGoal, KeepsAsked, LeadsBelow, from, with_opposite, step_past};
 ghost use Rattle.gh_path.specs.Shown.{step_from, other_way};
-ghost use Rattle.gh_path.specs.Graphs.{assume, assigned, written, called};
+ghost use Rattle.gh_path.specs.Graphs.{assume_step, set_step, write_step, call_step};
 ghost use Rattle.gh_path.specs.Kept.{step_of};
 ghost use Rattle.gh_path.specs.declared.node.Node.{Node as Plain};
 ghost use Rattle.gh_path.specs.declared.node.Node.TheVariants.{DeadEnd};
@@ -61,7 +61,7 @@ fn kept_assume(
     equal: bool,
     right: &Expr,
 ) -> Result<PathStep, AllocError>
-    ensures { IfOk result (λ r. step_of r ≡ assume left.now equal right.now) }
+    ensures { IfOk result (λ r. step_of r ≡ assume_step left.now equal right.now) }
 {
     Ok(PathStep::Assume {
         left: copy_expr(alloc, left)?,
@@ -72,7 +72,7 @@ fn kept_assume(
 
 // The step that gives a variable a value, as it is kept.
 fn kept_set(alloc: Global, target: &Occ, value: &Expr) -> Result<PathStep, AllocError>
-    ensures { IfOk result (λ r. step_of r ≡ assigned target.now value.now) }
+    ensures { IfOk result (λ r. step_of r ≡ set_step target.now value.now) }
 {
     Ok(PathStep::Set {
         target: copy_occ(alloc, target)?,
@@ -82,7 +82,7 @@ fn kept_set(alloc: Global, target: &Occ, value: &Expr) -> Result<PathStep, Alloc
 
 // The step that writes a cell, as it is kept.
 fn kept_write(alloc: Global, at: &Occ, value: &Expr) -> Result<PathStep, AllocError>
-    ensures { IfOk result (λ r. step_of r ≡ written at.now value.now) }
+    ensures { IfOk result (λ r. step_of r ≡ write_step at.now value.now) }
 {
     Ok(PathStep::Write {
         at: copy_occ(alloc, at)?,
@@ -97,7 +97,7 @@ fn kept_call(
     callee: u16,
     arguments: &[Expr],
 ) -> Result<PathStep, AllocError>
-    ensures { IfOk result (λ r. step_of r ≡ called targets.now callee arguments.now) }
+    ensures { IfOk result (λ r. step_of r ≡ call_step targets.now callee arguments.now) }
 {
     Ok(PathStep::Call {
         targets: copy_occs(alloc, targets)?,

@@ -3,10 +3,10 @@
 ghost use Rattle.std.specs.Prelude.{◌≡◌, ◌+◌, ◌≤◌, ◌∷◌, [], List, slice_get, IfOk, IfSome, OnOk};
 ghost use Rattle.gh_ast.specs.Limits.{AreFew};
 ghost use Rattle.gh_ast.specs.Plain.{Program as Plain, program_of};
-ghost use Rattle.gh_ast.specs.Programs.{body_of};
+ghost use Rattle.gh_ast.specs.Programs.{body_statements};
 ghost use Rattle.gh_ast.specs.Rules.{IsTyped};
 ghost use Rattle.gh_ast.specs.WellFormed.{IsFormedBody, IsWellFormed};
-ghost use Rattle.gh_path.specs.Graphs.{graph_from, whole_body, once_around};
+ghost use Rattle.gh_path.specs.Graphs.{graph_from, at_entry, once_around};
 ghost use Rattle.gh_path.specs.Admitted.{HasManyPaths, HasFewPaths, NoneHas};
 ghost use Rattle.gh_path.specs.Callees.{AllCallsAreKnown};
 ghost use Rattle.gh_path.specs.Conditions.{conditions};
@@ -17,10 +17,10 @@ ghost use Rattle.gh_path.specs.Walking.{loop_of};
 ghost use Rattle.gh_path.specs.declared.starts.Root.{Root as Kept};
 
 use crate::condition::Start;
-use crate::counts::{entry_ahead, round_ahead};
+use crate::counts::{entry_ahead, loop_ahead};
 use crate::loops::{While, loops_of, statements_of};
+use crate::lowering::Lowering;
 use crate::node::{Asked, Goal, Node, Nodes};
-use crate::walker::Walker;
 use gh_ast::Program;
 use std::alloc::{AllocError, Global};
 
@@ -49,12 +49,12 @@ pub struct Starts<'t> {
     pub roots: Vec<Root>,
 }
 
-impl<'t> Walker<'t> {
+impl<'t> Lowering<'t> {
     /// The nodes from the entry on.
     fn lower_entry(&self, alloc: Global, nodes: &mut Nodes<'t>) -> Result<usize, AllocError>
-        requires { AllSuit self.now 0 (body_of (procedure_in self.now)) }
+        requires { AllSuit self.now 0 (body_statements (procedure_in self.now)) }
         ensures { IfOk result (λ i.
-            AddsNodes nodes.old nodes.new i (graph_from (program_in self.now) (procedure_in self.now) whole_body)) }
+            AddsNodes nodes.old nodes.new i (graph_from (program_in self.now) (procedure_in self.now) at_entry)) }
     {
         let goal = Goal::Return;
         let span = self.procedure.close;
@@ -148,16 +148,16 @@ impl<'t> Starts<'t> {
     fn add_entry(
         &mut self,
         alloc: Global,
-        walker: &Walker<'t>,
+        lowering: &Lowering<'t>,
         procedure: u16,
     ) -> Result<(), AllocError>
-        requires suits { AllSuit walker.now 0 (body_of (procedure_in walker.now)) }
-        requires few { HasFewPaths (program_in walker.now) (procedure_in walker.now) }
-        ensures { OnOk result (AddsEntry walker.now procedure self.old self.new) }
+        requires suits { AllSuit lowering.now 0 (body_statements (procedure_in lowering.now)) }
+        requires few { HasFewPaths (program_in lowering.now) (procedure_in lowering.now) }
+        ensures { OnOk result (AddsEntry lowering.now procedure self.old self.new) }
     {
-        let node = walker.lower_entry(alloc, &mut self.nodes)?;
+        let node = lowering.lower_entry(alloc, &mut self.nodes)?;
         let start = Start::Entry;
-        let count = entry_ahead(walker.procedure).count;
+        let count = entry_ahead(lowering.procedure).count;
         self.roots.push(Root {
             procedure,
             start,
@@ -171,18 +171,18 @@ impl<'t> Starts<'t> {
     fn add_round(
         &mut self,
         alloc: Global,
-        walker: &Walker<'t>,
+        lowering: &Lowering<'t>,
         procedure: u16,
         turn: &While<'t>,
         number: u16,
     ) -> Result<(), AllocError>
-        requires suits { AllSuit walker.now (number + 1) (loop_of turn.now).body }
-        requires few { HasFewPaths (program_in walker.now) (procedure_in walker.now) }
-        ensures { OnOk result (AddsLoop walker.now procedure number (loop_of turn.now) self.old self.new) }
+        requires suits { AllSuit lowering.now (number + 1) (loop_of turn.now).body }
+        requires few { HasFewPaths (program_in lowering.now) (procedure_in lowering.now) }
+        ensures { OnOk result (AddsLoop lowering.now procedure number (loop_of turn.now) self.old self.new) }
     {
-        let node = walker.lower_round(alloc, turn, number, &mut self.nodes)?;
+        let node = lowering.lower_round(alloc, turn, number, &mut self.nodes)?;
         let start = Start::Loop { number };
-        let count = round_ahead(turn).count;
+        let count = loop_ahead(turn).count;
         self.roots.push(Root {
             procedure,
             start,
@@ -196,19 +196,19 @@ impl<'t> Starts<'t> {
     fn add_procedure(
         &mut self,
         alloc: Global,
-        walker: &Walker<'t>,
+        lowering: &Lowering<'t>,
         procedure: u16,
     ) -> Result<(), AllocError>
-        requires procedures { AreFew (program_in walker.now) }
-        requires callees { AllCallsAreKnown (program_in walker.now) (body_of (procedure_in walker.now)) }
-        requires few { HasFewPaths (program_in walker.now) (procedure_in walker.now) }
-        requires formed { IsFormedBody (procedure_in walker.now).body }
-        ensures { OnOk result (AddsProcedure walker.now procedure self.old self.new) }
+        requires procedures { AreFew (program_in lowering.now) }
+        requires callees { AllCallsAreKnown (program_in lowering.now) (body_statements (procedure_in lowering.now)) }
+        requires few { HasFewPaths (program_in lowering.now) (procedure_in lowering.now) }
+        requires formed { IsFormedBody (procedure_in lowering.now).body }
+        ensures { OnOk result (AddsProcedure lowering.now procedure self.old self.new) }
     {
-        self.add_entry(alloc, walker, procedure)?;
-        let turns = loops_of(alloc, walker.procedure)?;
+        self.add_entry(alloc, lowering, procedure)?;
+        let turns = loops_of(alloc, lowering.procedure)?;
         for (place, turn) in turns.as_slice().iter().enumerate() {
-            self.add_round(alloc, walker, procedure, turn, place as u16)?;
+            self.add_round(alloc, lowering, procedure, turn, place as u16)?;
         }
         Ok(())
     }
@@ -224,8 +224,8 @@ pub fn starts_of(alloc: Global, program: &Program) -> Result<Starts<'_>, AllocEr
 {
     let mut starts = Starts::new(alloc);
     for (index, procedure) in program.procedures.as_slice().iter().enumerate() {
-        let walker = Walker { program, procedure };
-        starts.add_procedure(alloc, &walker, index as u16)?;
+        let lowering = Lowering { program, procedure };
+        starts.add_procedure(alloc, &lowering, index as u16)?;
     }
     Ok(starts)
 }

@@ -1,14 +1,18 @@
 -- Cells that are placed in a line, one after the other.
-use Rattle.std.specs.Prelude.{◌≡◌, ◌≢◌, ◌⊎◌, ℕ, zero, suc, ◌+◌, ◌<◌, Bool, true, false, List, [], ◌∷◌, map, Option, Some, None, is_none, is_some, length, get_or, set, IsSome, nat_eq}
+use Rattle.std.specs.Prelude.{◌≡◌, ◌≢◌, ◌⊎◌, ℕ, zero, suc, ◌+◌, ◌<◌, Bool, true, false, List, [], ◌∷◌, map, Option}
+use Rattle.std.specs.Prelude.{Some, None, is_none, is_some, length, get_or, set, IsSome, nat_eq}
 use Rattle.std.specs.List.{count_by}
-use Rattle.std.proofs.Common.{refl, sym, ◌∙◌, ap, subst, arith, inl, inr, cond, get_or-set_same, get_or-set_other, length-set}
+use Rattle.std.proofs.Common.{refl, sym, ◌∙◌, ap, subst, arith, inl, inr, cond, get_or-set_same, get_or-set_other}
+use Rattle.std.proofs.Common.{length-set}
 use Rattle.std.proofs.lemmas.Bool.Decides.{nat_tests}
 use Rattle.std.proofs.lemmas.List.{length-map}
 use Rattle.std.proofs.lemmas.List.Sums.{sum_by-set, count_by-le-length}
 use Rattle.gh_assert.specs.declared.heap.Cell.{Cell}
 use Rattle.gh_picture.proofs.Numbers.{number_some}
-use Rattle.gh_picture.specs.Spots.{number_in, no_cell, no_spot, spot_at, AreSpots, cell_at, LeadsTo, MayFollow, IsNoLater, right_of}
-use Rattle.gh_picture.specs.Placing.{Board, spot_on, StandsAt, ShareNoSpot, StillStands, HasLines, IsBefore, IsAwaited, IsLedTo, AreLists, IsLineBegun, IsOnLine}
+use Rattle.gh_picture.specs.Spots.{number_in, no_cell, no_spot, spot_at, AreSpots, cell_at, LeadsTo, MayFollow}
+use Rattle.gh_picture.specs.Spots.{IsNoLater, right_of}
+use Rattle.gh_picture.specs.Placing.{Board, spot_on, StandsAt, ShareNoSpot, StillStands, HasLines, IsBefore, IsAwaited}
+use Rattle.gh_picture.specs.Placing.{IsLedTo, AreLists, IsLineBegun, IsOnLine}
 use Rattle.gh_picture.specs.declared.layout.Spot.{Spot}
 
 abbrev pub spot : ℕ → ℕ → Spot
@@ -28,7 +32,8 @@ stands_there : (b : Board) (i j : ℕ) (s t : Spot) → j ≢ i → StandsAt b j
 stands_there b i j s t other h = rw get_or-set_other h
 
 -- what stands after a cell is placed
-after_set : (b : Board) (i j : ℕ) (s t : Spot) → i < length b → StandsAt (set b i (Some s)) j t → ((j ≡ i) × (t ≡ s)) ⊎ ((j ≢ i) × StandsAt b j t)
+after_set : (b : Board) (i j : ℕ) (s t : Spot) → i < length b → StandsAt (set b i (Some s)) j t
+    → ((j ≡ i) × (t ≡ s)) ⊎ ((j ≢ i) × StandsAt b j t)
 after_set b i j s t h stands = by_place (same_or_other j i)
   where
     by_place : (j ≡ i) ⊎ (j ≢ i) → ((j ≡ i) × (t ≡ s)) ⊎ ((j ≢ i) × StandsAt b j t)
@@ -42,7 +47,8 @@ after_set b i j s t h stands = by_place (same_or_other j i)
         inr (other, sym there ∙ stands)
 
 -- a line is begun at any cell
-pub begun : (cs : List Cell) (b : Board) (line from : ℕ) → HasLines cs b line → from < length cs → IsLineBegun cs b line 0 from
+pub begun : (cs : List Cell) (b : Board) (line from : ℕ) → HasLines cs b line → from < length cs
+    → IsLineBegun cs b line 0 from
 begun cs b line from lines within = record {
   one_each = lines.one_each;
   some = lines.some;
@@ -57,7 +63,8 @@ begun cs b line from lines within = record {
 }
 
 -- the line has come to a cell that stands: it ends
-pub closes : (cs : List Cell) (b : Board) (line column next : ℕ) (t : Spot) → IsLineBegun cs b line column next → StandsAt b next t → HasLines cs b (line + 1)
+pub closes : (cs : List Cell) (b : Board) (line column next : ℕ) (t : Spot) → IsLineBegun cs b line column next
+    → StandsAt b next t → HasLines cs b (line + 1)
 closes cs b line column next t begun stands = record {
   one_each = begun.one_each;
   some = omega arith;
@@ -81,9 +88,14 @@ closes cs b line column next t begun stands = record {
         let one : s.column + 1 ≡ column = ap (λ (z : Spot). z.column) e in
         inr (h.0 ∙ sym same, omega (arith, h.1, one))
 
-    joined : (i j : ℕ) (s : Spot) → ((u : Spot) × StandsAt b j u × MayFollow s u) ⊎ IsAwaited line column next s j → (u : Spot) × StandsAt b j u × MayFollow s u
+    joined : (i j : ℕ) (s : Spot) → ((u : Spot) × StandsAt b j u × MayFollow s u) ⊎ IsAwaited line column next s j
+        → (u : Spot) × StandsAt b j u × MayFollow s u
     joined i j s (inl h) = h
-    joined i j s (inr h) = (t, subst (λ (k : ℕ). StandsAt b k t) (sym h.0) stands, inr (no_later s h.1 (begun.before next t stands)))
+    joined i j s (inr h) = (
+      t,
+      subst (λ (k : ℕ). StandsAt b k t) (sym h.0) stands,
+      inr (no_later s h.1 (begun.before next t stands)),
+    )
 
 abbrev pub placed : Board → ℕ → ℕ → ℕ → Board
 placed b line column next = set b next (Some (spot line column))
@@ -101,9 +113,11 @@ placed_kept b line column next free i s h = by_place (same_or_other i next)
         absurd cc
     by_place (inr other) = stands_there b next i (spot line column) s other h
 
-placed_apart : (cs : List Cell) (b : Board) (line column next : ℕ) → IsLineBegun cs b line column next → ShareNoSpot (placed b line column next)
+placed_apart : (cs : List Cell) (b : Board) (line column next : ℕ) → IsLineBegun cs b line column next
+    → ShareNoSpot (placed b line column next)
 placed_apart cs b line column next begun i j s differ hi hj =
-    by_both (after_set b next i (spot line column) s (inside cs b line column next begun) hi) (after_set b next j (spot line column) s (inside cs b line column next begun) hj)
+    by_both (after_set b next i (spot line column) s (inside cs b line column next begun) hi)
+    (after_set b next j (spot line column) s (inside cs b line column next begun) hj)
   where
     fresh : (k : ℕ) → StandsAt b k s → s ≡ spot line column → ⊥
     fresh k h e = by_before (begun.before k s h)
@@ -112,7 +126,8 @@ placed_apart cs b line column next begun i j s differ hi hj =
         by_before (inl less) = omega (arith, less, ap (λ (z : Spot). z.line) e)
         by_before (inr less) = omega (arith, less.1, ap (λ (z : Spot). z.column) e)
 
-    by_both : ((i ≡ next) × (s ≡ spot line column)) ⊎ ((i ≢ next) × StandsAt b i s) → ((j ≡ next) × (s ≡ spot line column)) ⊎ ((j ≢ next) × StandsAt b j s) → ⊥
+    by_both : ((i ≡ next) × (s ≡ spot line column)) ⊎ ((i ≢ next) × StandsAt b i s)
+        → ((j ≡ next) × (s ≡ spot line column)) ⊎ ((j ≢ next) × StandsAt b j s) → ⊥
     by_both (inl a) (inl c) = differ (a.0 ∙ sym c.0)
     by_both (inl a) (inr c) = fresh j c.1 a.1
     by_both (inr a) (inl c) = fresh i a.1 c.1
@@ -120,7 +135,8 @@ placed_apart cs b line column next begun i j s differ hi hj =
 
 placed_before : (cs : List Cell) (b : Board) (line column next : ℕ) → IsLineBegun cs b line column next
     → (i : ℕ) (s : Spot) → StandsAt (placed b line column next) i s → IsBefore line (column + 1) s
-placed_before cs b line column next begun i s h = by_set (after_set b next i (spot line column) s (inside cs b line column next begun) h)
+placed_before cs b line column next begun i s h =
+    by_set (after_set b next i (spot line column) s (inside cs b line column next begun) h)
   where
     further : IsBefore line column s → IsBefore line (column + 1) s
     further (inl less) = inl less
@@ -132,50 +148,71 @@ placed_before cs b line column next begun i s h = by_set (after_set b next i (sp
 
 placed_from_one : (cs : List Cell) (b : Board) (line column next : ℕ) → IsLineBegun cs b line column next
     → (i : ℕ) (s : Spot) → StandsAt (placed b line column next) i s → 0 < s.line
-placed_from_one cs b line column next begun i s h = by_set (after_set b next i (spot line column) s (inside cs b line column next begun) h)
+placed_from_one cs b line column next begun i s h =
+    by_set (after_set b next i (spot line column) s (inside cs b line column next begun) h)
   where
     by_set : ((i ≡ next) × (s ≡ spot line column)) ⊎ ((i ≢ next) × StandsAt b i s) → 0 < s.line
     by_set (inl a) = omega (arith, ap (λ (z : Spot). z.line) a.1, begun.some)
     by_set (inr a) = begun.from_one i s a.1
 
 -- one cell fewer is to be placed
-pub placed_fewer : (b : Board) (line column next : ℕ) → next < length b → spot_on b next ≡ None → count_by is_none (placed b line column next) + 1 ≡ count_by is_none b
+pub placed_fewer : (b : Board) (line column next : ℕ) → next < length b → spot_on b next ≡ None
+    → count_by is_none (placed b line column next) + 1 ≡ count_by is_none b
 placed_fewer b line column next h free =
     let count : Option Spot → ℕ = λ o. cond (is_none o) 1 0 in
     let was : count (spot_on b next) ≡ 1 = ap count free in
     omega (arith, sum_by-set count b next (Some (spot line column)) None h, was)
 
 -- what a cell leads to, after the next is placed
-placed_lines : (cs : List Cell) (b : Board) (line column next : ℕ) → IsLineBegun cs b line column next → spot_on b next ≡ None
-    → (i j : ℕ) (s : Spot) → i ≢ next → StandsAt b i s → LeadsTo cs i j → (t : Spot) × StandsAt (placed b line column next) j t × MayFollow s t
+placed_lines : (cs : List Cell) (b : Board) (line column next : ℕ) → IsLineBegun cs b line column next
+    → spot_on b next ≡ None
+    → (i j : ℕ) (s : Spot) → i ≢ next → StandsAt b i s → LeadsTo cs i j
+    → (t : Spot) × StandsAt (placed b line column next) j t × MayFollow s t
 placed_lines cs b line column next begun free i j s other h leads = by_old (begun.in_lines i j s h leads)
   where
-    by_old : ((t : Spot) × StandsAt b j t × MayFollow s t) ⊎ IsAwaited line column next s j → (t : Spot) × StandsAt (placed b line column next) j t × MayFollow s t
+    by_old : ((t : Spot) × StandsAt b j t × MayFollow s t) ⊎ IsAwaited line column next s j
+        → (t : Spot) × StandsAt (placed b line column next) j t × MayFollow s t
     by_old (inl (t, stands, follows)) = (t, placed_kept b line column next free j t stands, follows)
     by_old (inr (is, right)) =
-        let here : StandsAt (placed b line column next) next (spot line column) = stands_here b next (spot line column) (inside cs b line column next begun) in
-        (spot line column, subst (λ (k : ℕ). StandsAt (placed b line column next) k (spot line column)) (sym is) here, inl (sym right))
+        let here : StandsAt (placed b line column next) next (spot line column) =
+        stands_here b next (spot line column) (inside cs b line column next begun) in (
+          spot line column,
+          subst (λ (k : ℕ). StandsAt (placed b line column next) k (spot line column)) (sym is) here,
+          inl (sym right),
+        )
 
 -- a cell to which another leads stays so
-led_to_stays : (cs : List Cell) (old new : Board) (j : ℕ) (t : Spot) → StillStands old new → IsLedTo cs old j t → IsLedTo cs new j t
+led_to_stays : (cs : List Cell) (old new : Board) (j : ℕ) (t : Spot) → StillStands old new → IsLedTo cs old j t
+    → IsLedTo cs new j t
 led_to_stays cs old new j t kept (i, s, stands, leads, right) = (i, s, kept i s stands, leads, right)
 
-placed_lists : (cs : List Cell) (b : Board) (line column next : ℕ) → IsLineBegun cs b line column next → spot_on b next ≡ None → AreLists cs (placed b line column next)
-placed_lists cs b line column next begun free j t h some = by_set (after_set b next j (spot line column) t (inside cs b line column next begun) h)
+placed_lists : (cs : List Cell) (b : Board) (line column next : ℕ) → IsLineBegun cs b line column next
+    → spot_on b next ≡ None → AreLists cs (placed b line column next)
+placed_lists cs b line column next begun free j t h some =
+    by_set (after_set b next j (spot line column) t (inside cs b line column next begun) h)
   where
     kept : StillStands b (placed b line column next)
     kept = placed_kept b line column next free
 
-    by_set : ((j ≡ next) × (t ≡ spot line column)) ⊎ ((j ≢ next) × StandsAt b j t) → IsLedTo cs (placed b line column next) j t
+    by_set : ((j ≡ next) × (t ≡ spot line column)) ⊎ ((j ≢ next) × StandsAt b j t)
+        → IsLedTo cs (placed b line column next) j t
     by_set (inl (is, here)) =
         let column_is : t.column ≡ column = ap (λ (z : Spot). z.column) here in
-        let (i, s, stands, leads, right) = begun.comes (omega (arith, some, column_is)) in
-        (i, s, kept i s stands, (leads.0, subst (λ (k : ℕ). number_in cs (cell_at cs i).to ≡ Some k) (sym is) leads.1), here ∙ right)
-    by_set (inr (differs, stands)) = led_to_stays cs b (placed b line column next) j t kept (begun.lists j t stands some)
+        let (i, s, stands, leads, right) = begun.comes (omega (arith, some, column_is)) in (
+          i,
+          s,
+          kept i s stands,
+          (leads.0, subst (λ (k : ℕ). number_in cs (cell_at cs i).to ≡ Some k) (sym is) leads.1),
+          here ∙ right,
+        )
+    by_set (inr (differs, stands)) =
+        led_to_stays cs b (placed b line column next) j t kept (begun.lists j t stands some)
 
 -- the cell leads to another: the line goes on there
-pub goes_on : (cs : List Cell) (b : Board) (line column next other : ℕ) → IsLineBegun cs b line column next → spot_on b next ≡ None
-    → number_in cs (cell_at cs next).to ≡ Some other → other < length cs → IsLineBegun cs (placed b line column next) line (column + 1) other
+pub goes_on : (cs : List Cell) (b : Board) (line column next other : ℕ) → IsLineBegun cs b line column next
+    → spot_on b next ≡ None
+    → number_in cs (cell_at cs next).to ≡ Some other → other < length cs
+    → IsLineBegun cs (placed b line column next) line (column + 1) other
 goes_on cs b line column next other begun free leads within = record {
   one_each = length-set b next (Some (spot line column)) ∙ begun.one_each;
   some = begun.some;
@@ -184,21 +221,33 @@ goes_on cs b line column next other begun free leads within = record {
   room = omega (arith, placed_fewer b line column next (inside cs b line column next begun) free, begun.room);
   before = placed_before cs b line column next begun;
   apart = placed_apart cs b line column next begun;
-  in_lines = λ i j s h to. by_set i j s to (after_set b next i (spot line column) s (inside cs b line column next begun) h);
+  in_lines =
+      λ i j s h to. by_set i j s to (after_set b next i (spot line column) s (inside cs b line column next begun) h);
   lists = placed_lists cs b line column next begun free;
-  comes = λ some. (next, spot line column, stands_here b next (spot line column) (inside cs b line column next begun), (begun.within, leads), refl);
+  comes = λ some. (
+    next,
+    spot line column,
+    stands_here b next (spot line column) (inside cs b line column next begun),
+    (begun.within, leads),
+    refl,
+  );
 }
   where
-    by_set : (i j : ℕ) (s : Spot) → LeadsTo cs i j → ((i ≡ next) × (s ≡ spot line column)) ⊎ ((i ≢ next) × StandsAt b i s)
-        → ((t : Spot) × StandsAt (placed b line column next) j t × MayFollow s t) ⊎ IsAwaited line (column + 1) other s j
+    by_set : (i j : ℕ) (s : Spot) → LeadsTo cs i j
+        → ((i ≡ next) × (s ≡ spot line column)) ⊎ ((i ≢ next) × StandsAt b i s)
+        → ((t : Spot) × StandsAt (placed b line column next) j t × MayFollow s t)
+        ⊎ IsAwaited line (column + 1) other s j
     by_set i j s to (inl (is, here)) =
-        let mine : number_in cs (cell_at cs next).to ≡ Some j = subst (λ (k : ℕ). number_in cs (cell_at cs k).to ≡ Some j) is to.1 in
+        let mine : number_in cs (cell_at cs next).to ≡ Some j =
+        subst (λ (k : ℕ). number_in cs (cell_at cs k).to ≡ Some j) is to.1 in
         let both : Some j ≡ Some other = sym mine ∙ leads in
         inr (cc, ap right_of here)
-    by_set i j s to (inr (differs, stands)) = inl (placed_lines cs b line column next begun free i j s differs stands to)
+    by_set i j s to (inr (differs, stands)) =
+        inl (placed_lines cs b line column next begun free i j s differs stands to)
 
 -- the cell leads to none: the line ends
-pub ends : (cs : List Cell) (b : Board) (line column next : ℕ) → IsLineBegun cs b line column next → spot_on b next ≡ None
+pub ends : (cs : List Cell) (b : Board) (line column next : ℕ) → IsLineBegun cs b line column next
+    → spot_on b next ≡ None
     → number_in cs (cell_at cs next).to ≡ None → HasLines cs (placed b line column next) (line + 1)
 ends cs b line column next begun free leads = record {
   one_each = length-set b next (Some (spot line column)) ∙ begun.one_each;
@@ -206,7 +255,8 @@ ends cs b line column next begun free leads = record {
   from_one = placed_from_one cs b line column next begun;
   above = λ i s h. above s (placed_before cs b line column next begun i s h);
   apart = placed_apart cs b line column next begun;
-  in_lines = λ i j s h to. by_set i j s to (after_set b next i (spot line column) s (inside cs b line column next begun) h);
+  in_lines =
+      λ i j s h to. by_set i j s to (after_set b next i (spot line column) s (inside cs b line column next begun) h);
   lists = placed_lists cs b line column next begun free;
 }
   where
@@ -214,10 +264,12 @@ ends cs b line column next begun free leads = record {
     above s (inl h) = omega (arith, h)
     above s (inr h) = omega (arith, h.0)
 
-    by_set : (i j : ℕ) (s : Spot) → LeadsTo cs i j → ((i ≡ next) × (s ≡ spot line column)) ⊎ ((i ≢ next) × StandsAt b i s)
+    by_set : (i j : ℕ) (s : Spot) → LeadsTo cs i j
+        → ((i ≡ next) × (s ≡ spot line column)) ⊎ ((i ≢ next) × StandsAt b i s)
         → (t : Spot) × StandsAt (placed b line column next) j t × MayFollow s t
     by_set i j s to (inl (is, here)) =
-        let mine : number_in cs (cell_at cs next).to ≡ Some j = subst (λ (k : ℕ). number_in cs (cell_at cs k).to ≡ Some j) is to.1 in
+        let mine : number_in cs (cell_at cs next).to ≡ Some j =
+        subst (λ (k : ℕ). number_in cs (cell_at cs k).to ≡ Some j) is to.1 in
         let both : None ≡ Some j = sym leads ∙ mine in
         absurd cc
     by_set i j s to (inr (differs, stands)) = placed_lines cs b line column next begun free i j s differs stands to
@@ -240,22 +292,30 @@ still_stands old new i kept h =
     is_some_of (spot_on new i) s (kept i s e)
 
 -- where the line has begun stands, once its first cell is placed
-pub start_stands : (b : Board) (line column next from : ℕ) → next < length b → spot_on b next ≡ None → (next ≡ from) ⊎ IsSome (spot_on b from)
+pub start_stands : (b : Board) (line column next from : ℕ) → next < length b → spot_on b next ≡ None
+    → (next ≡ from) ⊎ IsSome (spot_on b from)
     → IsSome (spot_on (placed b line column next) from)
 start_stands b line column next from h free (inl same) =
-    subst (λ (k : ℕ). IsSome (spot_on (placed b line column next) k)) same (is_some_of (spot_on (placed b line column next) next) (spot line column) (stands_here b next (spot line column) h))
-start_stands b line column next from h free (inr stands) = still_stands b (placed b line column next) from (placed_kept b line column next free) stands
+    subst (λ (k : ℕ). IsSome (spot_on (placed b line column next) k)) same
+    (is_some_of (spot_on (placed b line column next) next) (spot line column)
+    (stands_here b next (spot line column) h))
+start_stands b line column next from h free (inr stands) =
+    still_stands b (placed b line column next) from (placed_kept b line column next free) stands
 
 -- the first cell of a line stands at its beginning, once it is placed
-pub line_stays : (b : Board) (line column next from : ℕ) → next < length b → spot_on b next ≡ None → IsOnLine b line from next column
+pub line_stays : (b : Board) (line column next from : ℕ) → next < length b → spot_on b next ≡ None
+    → IsOnLine b line from next column
     → StandsAt (placed b line column next) from (spot line 0)
 line_stays b line column next from h free (inl (same, first, none)) =
-    let at : StandsAt (placed b line column next) from (spot line column) = subst (λ (k : ℕ). StandsAt (placed b line column next) k (spot line column)) same (stands_here b next (spot line column) h) in
+    let at : StandsAt (placed b line column next) from (spot line column) =
+    subst (λ (k : ℕ). StandsAt (placed b line column next) k (spot line column)) same
+    (stands_here b next (spot line column) h) in
     subst (λ (n : ℕ). StandsAt (placed b line column next) from (spot line n)) first at
 line_stays b line column next from h free (inr stands) = placed_kept b line column next free from (spot line 0) stands
 
 -- and so it does where a line ends at a cell that stands
-pub line_closes : (b : Board) (line column next from : ℕ) (t : Spot) → StandsAt b next t → IsOnLine b line from next column → StandsAt b from (spot line 0)
+pub line_closes : (b : Board) (line column next from : ℕ) (t : Spot) → StandsAt b next t
+    → IsOnLine b line from next column → StandsAt b from (spot line 0)
 line_closes b line column next from t at (inl (same, first, none)) =
     let here : StandsAt b from t = subst (λ (k : ℕ). StandsAt b k t) same at in
     let both : None ≡ Some t = sym none ∙ here in
@@ -269,11 +329,13 @@ listed (s ∷ ss) zero h = refl
 listed (s ∷ ss) (suc i) h = listed ss i (omega (arith, h))
 
 -- when all cells stand, each has its spot
-pub all_spots : (cs : List Cell) (b : Board) (line : ℕ) (ss : List Spot) → HasLines cs b line → map Some ss ≡ b → AreSpots cs ss
+pub all_spots : (cs : List Cell) (b : Board) (line : ℕ) (ss : List Spot) → HasLines cs b line → map Some ss ≡ b
+    → AreSpots cs ss
 all_spots cs b line ss lines is = record {
   one_each = count;
   apart = λ i j less within same.
-      let first : StandsAt b i (spot_at ss j) = stands i (omega (arith, less, within)) ∙ ap (λ (s : Spot). Some s) same in
+      let first : StandsAt b i (spot_at ss j) =
+      stands i (omega (arith, less, within)) ∙ ap (λ (s : Spot). Some s) same in
       lines.apart i j (spot_at ss j) (omega (arith, less)) first (stands j within);
   in_lines = λ i j leads. follows i j leads (lines.in_lines i j (spot_at ss i) (stands i leads.0) leads);
   lists = λ j within some. led_to j (lines.lists j (spot_at ss j) (stands j within) some);
@@ -286,14 +348,16 @@ all_spots cs b line ss lines is = record {
     stands i h =
         subst (λ (c : Board). StandsAt c i (spot_at ss i)) is (listed ss i (omega (arith, h, count)))
 
-    follows : (i j : ℕ) → LeadsTo cs i j → (t : Spot) × StandsAt b j t × MayFollow (spot_at ss i) t → MayFollow (spot_at ss i) (spot_at ss j)
+    follows : (i j : ℕ) → LeadsTo cs i j → (t : Spot) × StandsAt b j t × MayFollow (spot_at ss i) t
+        → MayFollow (spot_at ss i) (spot_at ss j)
     follows i j leads (t, there, is_next) =
         let within : j < length cs = (number_some cs (cell_at cs i).to j no_cell leads.1).0 in
         let both : Some t ≡ Some (spot_at ss j) = sym there ∙ stands j within in
         let same : t ≡ spot_at ss j = cc in
         subst (λ (u : Spot). MayFollow (spot_at ss i) u) same is_next
 
-    led_to : (j : ℕ) → IsLedTo cs b j (spot_at ss j) → (i : ℕ) × LeadsTo cs i j × (spot_at ss j ≡ right_of (spot_at ss i))
+    led_to : (j : ℕ) → IsLedTo cs b j (spot_at ss j)
+        → (i : ℕ) × LeadsTo cs i j × (spot_at ss j ≡ right_of (spot_at ss i))
     led_to j (i, s, there, leads, right) =
         let both : Some s ≡ Some (spot_at ss i) = sym there ∙ stands i leads.0 in
         let same : s ≡ spot_at ss i = cc in

@@ -28,24 +28,32 @@ same_cells cs h e = there_and_back cs ∙ ap (λ ps. map cell_of ps) e
 pub added : (g0 g1 g2 g3 cells variables : List Group) (caption : Group)
     → g0 ≡ [] → g1 ≡ g0 ++ caption ∷ [] → g2 ≡ g1 ++ cells → g3 ≡ g2 ++ variables → g3 ≡ caption ∷ (cells ++ variables)
 added g0 g1 g2 g3 cells variables caption e0 e1 e2 e3 =
-    e3 ∙ ap (λ (g : List Group). g ++ variables) (e2 ∙ ap (λ (g : List Group). g ++ cells) (e1 ∙ ap (λ (g : List Group). g ++ caption ∷ []) e0))
+    e3 ∙ ap (λ (g : List Group). g ++ variables)
+    (e2 ∙ ap (λ (g : List Group). g ++ cells) (e1 ∙ ap (λ (g : List Group). g ++ caption ∷ []) e0))
 
 -- the groups of what a row has are those of the row
-pub of_row : (row : Row) (spots : List Spot) (cs : List Cell) (es : List Entry) (roles : List Role) (changes : List Change)
+pub of_row : (row : Row) (spots : List Spot) (cs : List Cell) (es : List Entry) (roles : List Role)
+    (changes : List Change)
     → cs ≡ cells_of row.state.heap → es ≡ row.state.store → roles ≡ row.roles.items → changes ≡ row.changes.items
-    → caption_group row.statement row.note ∷ (cell_groups roles cs spots 0 cs ++ variable_groups changes cs spots es 0 es) ≡ row_groups row spots
+    → caption_group row.statement row.note
+    ∷ (cell_groups roles cs spots 0 cs ++ variable_groups changes cs spots es 0 es) ≡ row_groups row spots
 of_row row spots cs es roles changes cells store named changed =
     let caption = caption_group row.statement row.note in
-    ap (λ (ds : List Cell). caption ∷ (cell_groups roles ds spots 0 ds ++ variable_groups changes ds spots es 0 es)) cells ∙
-    ap (λ (fs : List Entry). caption ∷ (cell_groups roles (cells_of row.state.heap) spots 0 (cells_of row.state.heap) ++ variable_groups changes (cells_of row.state.heap) spots fs 0 fs)) store ∙
+    ap (λ (ds : List Cell). caption ∷ (cell_groups roles ds spots 0 ds ++ variable_groups changes ds spots es 0 es))
+    cells ∙
+    ap (λ (fs : List Entry). caption
+    ∷ (cell_groups roles (cells_of row.state.heap) spots 0 (cells_of row.state.heap)
+    ++ variable_groups changes (cells_of row.state.heap) spots fs 0 fs)) store ∙
     ap
     (λ (rs : List Role).
-    caption ∷ (cell_groups rs (cells_of row.state.heap) spots 0 (cells_of row.state.heap) ++ variable_groups changes (cells_of row.state.heap) spots row.state.store 0 row.state.store))
+    caption ∷ (cell_groups rs (cells_of row.state.heap) spots 0 (cells_of row.state.heap)
+    ++ variable_groups changes (cells_of row.state.heap) spots row.state.store 0 row.state.store))
     named ∙
     ap
     (λ (ms : List Change).
     caption ∷
-    (cell_groups row.roles.items (cells_of row.state.heap) spots 0 (cells_of row.state.heap) ++ variable_groups ms (cells_of row.state.heap) spots row.state.store 0 row.state.store))
+    (cell_groups row.roles.items (cells_of row.state.heap) spots 0 (cells_of row.state.heap)
+    ++ variable_groups ms (cells_of row.state.heap) spots row.state.store 0 row.state.store))
     changed
 
 pub captions : (a b c d : List ℕ) (g : Group) → g ≡ caption_group a b → a ≡ c → b ≡ d → g ≡ caption_group c d

@@ -1,12 +1,16 @@
 -- The text of a tree is well formed.
-use Rattle.std.specs.Prelude.{◌≡◌, ◌≢◌, ℕ, Bool, true, false, ◌==◌, ◌&&◌, nat_le, List, [], ◌∷◌, ◌++◌, codes, if◌then◌else◌}
+use Rattle.std.specs.Prelude.{◌≡◌, ◌≢◌, ℕ, Bool, true, false, ◌==◌, ◌&&◌, nat_le, List, [], ◌∷◌, ◌++◌, codes}
+use Rattle.std.specs.Prelude.{if◌then◌else◌}
 use Rattle.std.specs.List.{flat_map}
 use Rattle.std.proofs.Common.{refl, subst, arith}
 use Rattle.std.proofs.lemmas.Bool.Decides.{nat_tests}
 use Rattle.std.proofs.lemmas.List.{append_assoc}
 use Rattle.gh_picture.specs.Words.{tag_word, key_word}
-use Rattle.gh_picture.specs.Written.{escape, escaped, attribute_text, opened, closed, leaf_text, group_text, panel_text, svg_text, printed}
-use Rattle.gh_picture.specs.Elements.{IsName, IsUnescaped, AreCharacters, no_characters, unescaped_first, less_first, greater_first, and_first, quote_first, AreAttributes, no_attributes, attribute_first, IsElement, element, IsInside, characters, element_first}
+use Rattle.gh_picture.specs.Written.{escape, escaped, attribute_text, opened, closed, leaf_text, group_text, panel_text}
+use Rattle.gh_picture.specs.Written.{svg_text, printed}
+use Rattle.gh_picture.specs.Elements.{IsName, IsUnescaped, AreCharacters, no_characters, unescaped_first, less_first}
+use Rattle.gh_picture.specs.Elements.{greater_first, and_first, quote_first, AreAttributes, no_attributes}
+use Rattle.gh_picture.specs.Elements.{attribute_first, IsElement, element, IsInside, characters, element_first}
 use Rattle.gh_picture.specs.declared.tree.Tag.{Tag}
 use Rattle.gh_picture.specs.declared.tree.Tag.TheVariants as tag
 use Rattle.gh_picture.specs.declared.tree.Key.{Key}
@@ -18,32 +22,54 @@ use Rattle.gh_picture.specs.declared.tree.Panel.{Panel}
 use Rattle.gh_picture.specs.declared.tree.Svg.{Svg}
 
 question : IsUnescaped 63
-question = record { low = omega arith; high = omega arith; no_less = λ e. omega (arith, e); no_greater = λ e. omega (arith, e); no_and = λ e. omega (arith, e); no_quote = λ e. omega (arith, e) }
+question = record {
+  low = omega arith;
+  high = omega arith;
+  no_less = λ e. omega (arith, e);
+  no_greater = λ e. omega (arith, e);
+  no_and = λ e. omega (arith, e);
+  no_quote = λ e. omega (arith, e);
+}
 
-printed_first : (c : ℕ) (rest : List ℕ) → c ≢ 60 → c ≢ 62 → c ≢ 38 → c ≢ 34 → AreCharacters rest → AreCharacters (printed c ++ rest)
+printed_first : (c : ℕ) (rest : List ℕ) → c ≢ 60 → c ≢ 62 → c ≢ 38 → c ≢ 34 → AreCharacters rest
+    → AreCharacters (printed c ++ rest)
 printed_first c rest l g a q more = by_test (nat_le 32 c && nat_le c 126) refl
   where
     by_test : (b : Bool) → (nat_le 32 c && nat_le c 126) ≡ b → AreCharacters ((if b then c ∷ [] else 63 ∷ []) ++ rest)
-    by_test true e = unescaped_first (record { low = grind (arith, nat_tests); high = grind (arith, nat_tests); no_less = l; no_greater = g; no_and = a; no_quote = q }) more
+    by_test true e =
+        unescaped_first (record {
+          low = grind (arith, nat_tests);
+          high = grind (arith, nat_tests);
+          no_less = l;
+          no_greater = g;
+          no_and = a;
+          no_quote = q;
+        }) more
     by_test false e = unescaped_first question more
 
 escape_first : (c : ℕ) (rest : List ℕ) → AreCharacters rest → AreCharacters (escape c ++ rest)
 escape_first c rest more = less (c == 60) refl
   where
-    quote : (b : Bool) → (c == 34) ≡ b → c ≢ 60 → c ≢ 62 → c ≢ 38 → AreCharacters ((if b then codes "&quot;" else printed c) ++ rest)
+    quote : (b : Bool) → (c == 34) ≡ b → c ≢ 60 → c ≢ 62 → c ≢ 38
+        → AreCharacters ((if b then codes "&quot;" else printed c) ++ rest)
     quote true e l g a = quote_first more
     quote false e l g a = printed_first c rest l g a (grind (arith, nat_tests)) more
 
-    amp : (b : Bool) → (c == 38) ≡ b → c ≢ 60 → c ≢ 62 → AreCharacters ((if b then codes "&amp;" else (if c == 34 then codes "&quot;" else printed c)) ++ rest)
+    amp : (b : Bool) → (c == 38) ≡ b → c ≢ 60 → c ≢ 62
+        → AreCharacters ((if b then codes "&amp;" else (if c == 34 then codes "&quot;" else printed c)) ++ rest)
     amp true e l g = and_first more
     amp false e l g = quote (c == 34) refl l g (grind (arith, nat_tests))
 
-    greater : (b : Bool) → (c == 62) ≡ b → c ≢ 60 → AreCharacters ((if b then codes "&gt;" else (if c == 38 then codes "&amp;" else (if c == 34 then codes "&quot;" else printed c))) ++ rest)
+    greater : (b : Bool) → (c == 62) ≡ b → c ≢ 60
+        → AreCharacters ((if b then codes "&gt;" else
+        (if c == 38 then codes "&amp;" else (if c == 34 then codes "&quot;" else printed c))) ++ rest)
     greater true e l = greater_first more
     greater false e l = amp (c == 38) refl l (grind (arith, nat_tests))
 
     less : (b : Bool) → (c == 60) ≡ b
-        → AreCharacters ((if b then codes "&lt;" else (if c == 62 then codes "&gt;" else (if c == 38 then codes "&amp;" else (if c == 34 then codes "&quot;" else printed c)))) ++ rest)
+        → AreCharacters ((if b then codes "&lt;" else
+        (if c == 62 then codes "&gt;" else
+        (if c == 38 then codes "&amp;" else (if c == 34 then codes "&quot;" else printed c)))) ++ rest)
     less true e = less_first more
     less false e = greater (c == 62) refl (grind (arith, nat_tests))
 
@@ -84,12 +110,15 @@ attributes_formed [] = no_attributes
 attributes_formed (a ∷ more) = attribute_first (key_name a.key) (escaped_characters a.value) (attributes_formed more)
 
 -- the close tag stands after the rest
-regroup : (start inside name : List ℕ) → ((start ++ inside) ++ codes "</" ++ name) ++ codes ">" ≡ start ++ inside ++ (codes "</" ++ name ++ codes ">")
+regroup : (start inside name : List ℕ)
+    → ((start ++ inside) ++ codes "</" ++ name) ++ codes ">" ≡ start ++ inside ++ (codes "</" ++ name ++ codes ">")
 regroup start inside name = simp append_assoc
 
-whole : (t : Tag) (attributes : List Attribute) (inside : List ℕ) → IsInside inside → IsElement (opened t attributes ++ inside ++ closed t)
+whole : (t : Tag) (attributes : List Attribute) (inside : List ℕ) → IsInside inside
+    → IsElement (opened t attributes ++ inside ++ closed t)
 whole t attributes inside is =
-    subst IsElement (regroup (opened t attributes) inside (tag_word t)) (element (tag_name t) (attributes_formed attributes) is)
+    subst IsElement (regroup (opened t attributes) inside (tag_word t))
+    (element (tag_name t) (attributes_formed attributes) is)
 
 leaf_element : (l : Leaf) → IsElement (leaf_text l)
 leaf_element l = whole l.tag l.attributes (escaped l.text) (characters (escaped_characters l.text))

@@ -34,13 +34,15 @@ pub data AreCharacters : List ℕ → Type 0 where
 pub data AreAttributes : List ℕ → Type 0 where
   no_attributes : AreAttributes []
   attribute_first : {n value rest : List ℕ}
-      → IsName n → AreCharacters value → AreAttributes rest → AreAttributes (codes " " ++ n ++ codes "=\"" ++ value ++ codes "\"" ++ rest)
+      → IsName n → AreCharacters value → AreAttributes rest
+      → AreAttributes (codes " " ++ n ++ codes "=\"" ++ value ++ codes "\"" ++ rest)
 
 -- an element is an open tag, what is inside, and the close tag of the same name; inside stand characters or elements
 mutual
   pub data IsElement : List ℕ → Type 0 where
     element : {n attributes inside : List ℕ}
-        → IsName n → AreAttributes attributes → IsInside inside → IsElement (codes "<" ++ n ++ attributes ++ codes ">" ++ inside ++ codes "</" ++ n ++ codes ">")
+        → IsName n → AreAttributes attributes → IsInside inside
+        → IsElement (codes "<" ++ n ++ attributes ++ codes ">" ++ inside ++ codes "</" ++ n ++ codes ">")
 
   pub data IsInside : List ℕ → Type 0 where
     characters : {text : List ℕ} → AreCharacters text → IsInside text

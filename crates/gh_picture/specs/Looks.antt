@@ -44,6 +44,7 @@ marker_group =
       tag = tag.Marker;
       attributes =
           attribute key.Id (codes "arrow") ∷ attribute key.RefX (codes "6") ∷ attribute key.RefY (codes "4") ∷
-          attribute key.MarkerWidth (codes "8") ∷ attribute key.MarkerHeight (codes "8") ∷ attribute key.Orient (codes "auto") ∷ [];
+          attribute key.MarkerWidth (codes "8") ∷ attribute key.MarkerHeight (codes "8")
+          ∷ attribute key.Orient (codes "auto") ∷ [];
       leaves = leaf_of tag.Path (codes "point") key.D (codes "M1 1L7 4L1 7") [] ∷ [];
     }

@@ -20,7 +20,8 @@ use Rattle.gh_picture.specs.declared.tree.Tag.TheVariants as tag
 abbrev pub ArePanelsOf : ℕ → ℕ → List Row → List Panel → ℕ → ℕ → Type 0
 ArePanelsOf top least [] panels below columns = (panels ≡ []) × (below ≡ top) × (columns ≡ least)
 ArePanelsOf top least (row ∷ rows) panels below columns =
-    (panel : Panel) × (rest : List Panel) × (next : ℕ) × (own : ℕ) × (panels ≡ panel ∷ rest) × IsPanelOf row top next own panel ×
+    (panel : Panel) × (rest : List Panel) × (next : ℕ) × (own : ℕ) × (panels ≡ panel ∷ rest)
+    × IsPanelOf row top next own panel ×
     ArePanelsOf next (max least own) rows rest below columns
 
 -- panels that show the rows are added
@@ -36,11 +37,13 @@ hundreds_text n = decimal n ++ codes "00"
 -- the attributes that give a picture the size of so many columns and lines
 abbrev pub frame_of : ℕ → ℕ → List Attribute
 frame_of columns lines =
-    attribute key.Xmlns (codes "http://www.w3.org/2000/svg") ∷ attribute key.Width (hundreds_text columns) ∷ attribute key.Height (hundreds_text lines) ∷
+    attribute key.Xmlns (codes "http://www.w3.org/2000/svg") ∷ attribute key.Width (hundreds_text columns)
+    ∷ attribute key.Height (hundreds_text lines) ∷
     attribute key.ViewBox (codes "0 0 " ++ hundreds_text columns ++ codes " " ++ hundreds_text lines) ∷ []
 
 abbrev pub title_group : List ℕ → Group
-title_group title = group_of (codes "head") (leaf_of tag.Text (codes "title") key.Transform (codes "translate(14 30)") title ∷ [])
+title_group title =
+    group_of (codes "head") (leaf_of tag.Text (codes "title") key.Transform (codes "translate(14 30)") title ∷ [])
 
 -- how things look, and then the title
 abbrev pub IsHead : List ℕ → Panel → Type 0

@@ -39,7 +39,8 @@ pub record HasLines (cells : List Cell) (board : Board) (line : ℕ) : Type 0 wh
   pub from_one : (i : ℕ) (s : Spot) → StandsAt board i s → 0 < s.line
   pub above : (i : ℕ) (s : Spot) → StandsAt board i s → s.line < line
   pub apart : ShareNoSpot board
-  pub in_lines : (i j : ℕ) (s : Spot) → StandsAt board i s → LeadsTo cells i j → (t : Spot) × StandsAt board j t × MayFollow s t
+  pub in_lines : (i j : ℕ) (s : Spot) → StandsAt board i s → LeadsTo cells i j
+      → (t : Spot) × StandsAt board j t × MayFollow s t
   pub lists : AreLists cells board
 
 -- the spot is in an earlier line, or in this one before the column
@@ -59,7 +60,8 @@ pub record IsLineBegun (cells : List Cell) (board : Board) (line column next : �
   pub room : column + count_by is_none board ≤ length cells
   pub before : (i : ℕ) (s : Spot) → StandsAt board i s → IsBefore line column s
   pub apart : ShareNoSpot board
-  pub in_lines : (i j : ℕ) (s : Spot) → StandsAt board i s → LeadsTo cells i j → ((t : Spot) × StandsAt board j t × MayFollow s t) ⊎ IsAwaited line column next s j
+  pub in_lines : (i j : ℕ) (s : Spot) → StandsAt board i s → LeadsTo cells i j
+      → ((t : Spot) × StandsAt board j t × MayFollow s t) ⊎ IsAwaited line column next s j
   pub lists : AreLists cells board
   pub comes : 0 < column → IsLedTo cells board next (record { line = line; column = column })
 
@@ -74,11 +76,13 @@ EachStands board ns = All (λ i. IsSome (spot_on board i)) ns
 -- while a line is placed that begins at a cell: no cell of it stands, or the first one stands at its beginning
 abbrev pub IsOnLine : Board → ℕ → ℕ → ℕ → ℕ → Type 0
 IsOnLine board line from next column =
-    ((next ≡ from) × (column ≡ 0) × (spot_on board from ≡ None)) ⊎ StandsAt board from (record { line = line; column = 0 })
+    ((next ≡ from) × (column ≡ 0) × (spot_on board from ≡ None))
+    ⊎ StandsAt board from (record { line = line; column = 0 })
 
 -- no line is begun, as the cell stands already; or one is, and begins at the cell
 abbrev pub MayBegin : Board → ℕ → ℕ → ℕ → Type 0
-MayBegin board line from next = (next ≡ line) ⊎ ((next ≡ line + 1) × StandsAt board from (record { line = line; column = 0 }))
+MayBegin board line from next =
+    (next ≡ line) ⊎ ((next ≡ line + 1) × StandsAt board from (record { line = line; column = 0 }))
 
 -- the cell stands in a line before this one
 abbrev pub StandsAbove : Board → ℕ → ℕ → Type 0

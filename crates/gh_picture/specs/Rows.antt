@@ -30,7 +30,8 @@ cells_of h = map (λ p. record { at = p.0; to = p.1 }) (entries h)
 
 -- how the arrow from one spot to another goes
 abbrev pub link_between : Spot → Spot → Link
-link_between s t = if s.line == t.line then (if s.column + 1 == t.column then link.Beside else link.Back t) else link.Jump t
+link_between s t =
+    if s.line == t.line then (if s.column + 1 == t.column then link.Beside else link.Back t) else link.Jump t
 
 abbrev pub link_to : List Spot → Spot → Option ℕ → Link
 link_to spots s None = link.Lost
@@ -38,7 +39,8 @@ link_to spots s (Some j) = link_between s (spot_at spots j)
 
 -- where the content of the cell of a number leads
 abbrev pub link_of : List Cell → List Spot → ℕ → Link
-link_of cells spots i = let to = (cell_at cells i).to in if to == 0 then link.Null else link_to spots (spot_at spots i) (number_in cells to)
+link_of cells spots i = let to = (cell_at cells i).to in
+    if to == 0 then link.Null else link_to spots (spot_at spots i) (number_in cells to)
 
 abbrev pub role_at : List Role → ℕ → Role
 role_at roles i = slice_index_or roles i role.Owned
@@ -49,7 +51,8 @@ change_at changes i = slice_index_or changes i change.Same
 -- a group for each cell, numbered from k
 abbrev pub cell_groups : List Role → List Cell → List Spot → ℕ → List Cell → List Group
 cell_groups roles cells spots k [] = []
-cell_groups roles cells spots k (c ∷ cs) = cell_group c (role_at roles k) (spot_at spots k) (link_of cells spots k) ∷ cell_groups roles cells spots (suc k) cs
+cell_groups roles cells spots k (c ∷ cs) =
+    cell_group c (role_at roles k) (spot_at spots k) (link_of cells spots k) ∷ cell_groups roles cells spots (suc k) cs
 
 -- how many variables have the value
 abbrev pub equal_count : List Entry → ℕ → ℕ
@@ -71,7 +74,8 @@ target_of cells spots seen value = target_to cells spots seen value (number_in c
 abbrev pub variable_groups : List Change → List Cell → List Spot → List Entry → ℕ → List Entry → List Group
 variable_groups changes cells spots es k [] = []
 variable_groups changes cells spots es k (f ∷ fs) =
-    variable_group f (change_at changes k) (target_of cells spots (take k es) f.value) ∷ variable_groups changes cells spots es (suc k) fs
+    variable_group f (change_at changes k) (target_of cells spots (take k es) f.value)
+    ∷ variable_groups changes cells spots es (suc k) fs
 
 -- a group for each variable of a store
 abbrev pub store_groups : List Change → List Cell → List Spot → List Entry → List Group
@@ -82,11 +86,14 @@ abbrev pub row_groups : Row → List Spot → List Group
 row_groups row spots =
     let cells = cells_of row.state.heap in
     caption_group row.statement row.note ∷
-    (cell_groups row.roles.items cells spots 0 cells ++ variable_groups row.changes.items cells spots row.state.store 0 row.state.store)
+    (cell_groups row.roles.items cells spots 0 cells
+    ++ variable_groups row.changes.items cells spots row.state.store 0 row.state.store)
 
 -- the attributes of a panel that stands below so many lines
 abbrev pub row_attributes : ℕ → List Attribute
-row_attributes top = attribute key.Class (codes "row") ∷ attribute key.Transform (codes "translate(10 " ++ decimal top ++ codes "50)") ∷ []
+row_attributes top =
+    attribute key.Class (codes "row") ∷ attribute key.Transform (codes "translate(10 " ++ decimal top ++ codes "50)")
+    ∷ []
 
 -- n, or the greatest 64-bit number where n is greater
 abbrev pub cut : ℕ → ℕ

@@ -41,7 +41,8 @@ abbrev pub attribute : Key → List ℕ → Attribute
 attribute k value = record { key = k; value = value }
 
 abbrev pub leaf_of : Tag → List ℕ → Key → List ℕ → List ℕ → Leaf
-leaf_of t class k value words = record { tag = t; attributes = attribute key.Class class ∷ attribute k value ∷ []; text = words }
+leaf_of t class k value words =
+    record { tag = t; attributes = attribute key.Class class ∷ attribute k value ∷ []; text = words }
 
 abbrev pub group_of : List ℕ → List Leaf → Group
 group_of class leaves = record { tag = tag.G; attributes = attribute key.Class class ∷ []; leaves = leaves }
@@ -69,13 +70,15 @@ stroke_text s rest = codes "M" ++ point_text s (codes "70") (codes "50") ++ rest
 -- from below a box to below another of the same line
 abbrev pub back_text : Spot → Spot → List ℕ
 back_text s t =
-    codes "M" ++ point_text s (codes "63") (codes "66") ++ codes "C" ++ point_text s (codes "63") (codes "99") ++ codes " " ++ point_text t (codes "19") (codes "99") ++
+    codes "M" ++ point_text s (codes "63") (codes "66") ++ codes "C" ++ point_text s (codes "63") (codes "99")
+    ++ codes " " ++ point_text t (codes "19") (codes "99") ++
     codes " " ++ point_text t (codes "19") (codes "71")
 
 -- from the right of a box to below another of another line
 abbrev pub jump_text : Spot → Spot → List ℕ
 jump_text s t =
-    codes "M" ++ point_text s (codes "70") (codes "50") ++ codes "C" ++ point_text s (codes "99") (codes "50") ++ codes " " ++ point_text t (codes "65") (codes "99") ++
+    codes "M" ++ point_text s (codes "70") (codes "50") ++ codes "C" ++ point_text s (codes "99") (codes "50")
+    ++ codes " " ++ point_text t (codes "65") (codes "99") ++
     codes " " ++ point_text t (codes "65") (codes "71")
 
 abbrev pub arrow_of : Spot → Link → Leaf
@@ -110,7 +113,9 @@ abbrev pub across_of : ℕ → List ℕ
 across_of level = if nat_lt level 3 then codes "42" else codes "92"
 
 abbrev pub down_of : ℕ → List ℕ
-down_of level = if (level == 0) || (level == 3) then codes "30" else (if (level == 1) || (level == 4) then codes "18" else codes "06")
+down_of level =
+    if (level == 0) || (level == 3) then codes "30" else
+    (if (level == 1) || (level == 4) then codes "18" else codes "06")
 
 -- `NAME = VALUE`
 abbrev pub apart_text : Entry → List ℕ
@@ -118,7 +123,8 @@ apart_text e = e.name ++ (if e.value == 0 then codes " = null" else codes " = " 
 
 abbrev pub variable_label_of : Entry → Target → Leaf
 variable_label_of e (target.Above s level) = label_of (codes "name") s (across_of level) (down_of level) e.name
-variable_label_of e (target.Apart slot) = label_of (codes "apart") (record { line = 0; column = slot }) (codes "14") (codes "66") (apart_text e)
+variable_label_of e (target.Apart slot) =
+    label_of (codes "apart") (record { line = 0; column = slot }) (codes "14") (codes "66") (apart_text e)
 
 -- a variable: its name above the box to which it points, or with its value where it points to none
 abbrev pub variable_group : Entry → Change → Target → Group
@@ -128,5 +134,6 @@ variable_group e c t = group_of (class_text (codes "variable") (change_word c)) 
 abbrev pub caption_group : List ℕ → List ℕ → Group
 caption_group statement note =
     group_of (codes "caption")
-    (path_of (codes "rule") (codes "M4 2h380") ∷ leaf_of tag.Text (codes "statement") key.Transform (codes "translate(14 20)") statement ∷
+    (path_of (codes "rule") (codes "M4 2h380")
+    ∷ leaf_of tag.Text (codes "statement") key.Transform (codes "translate(14 20)") statement ∷
     leaf_of tag.Text (codes "note") key.Transform (codes "translate(14 38)") note ∷ [])

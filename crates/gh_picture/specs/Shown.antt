@@ -51,4 +51,6 @@ pub record ShowsEach (row : Row) (groups : List Group) : Type 0 where
 
 -- the panel of a row shows each cell and each variable once
 abbrev pub PanelsShowEach : Type 0
-PanelsShowEach = (row : Row) (top below columns : ℕ) (panel : Panel) → IsPanelOf row top below columns panel → ShowsEach row panel.groups
+PanelsShowEach =
+    (row : Row) (top below columns : ℕ) (panel : Panel) → IsPanelOf row top below columns panel
+    → ShowsEach row panel.groups

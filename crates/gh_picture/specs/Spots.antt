@@ -44,7 +44,8 @@ pub record AreSpots (cells : List Cell) (spots : List Spot) : Type 0 where
   pub one_each : length spots ≡ length cells
   pub apart : (i j : ℕ) → i < j → j < length cells → spot_at spots i ≢ spot_at spots j
   pub in_lines : (i j : ℕ) → LeadsTo cells i j → MayFollow (spot_at spots i) (spot_at spots j)
-  pub lists : (j : ℕ) → j < length cells → 0 < (spot_at spots j).column → (i : ℕ) × LeadsTo cells i j × (spot_at spots j ≡ right_of (spot_at spots i))
+  pub lists : (j : ℕ) → j < length cells → 0 < (spot_at spots j).column
+      → (i : ℕ) × LeadsTo cells i j × (spot_at spots j ≡ right_of (spot_at spots i))
 
 abbrev pub is_number : ℕ → Option ℕ → Bool
 is_number j None = false

@@ -17,7 +17,9 @@ printed c = if nat_le 32 c && nat_le c 126 then c ∷ [] else codes "?"
 -- the characters of markup are written by their names
 abbrev pub escape : ℕ → List ℕ
 escape c =
-    if c == 60 then codes "&lt;" else (if c == 62 then codes "&gt;" else (if c == 38 then codes "&amp;" else (if c == 34 then codes "&quot;" else printed c)))
+    if c == 60 then codes "&lt;" else
+    (if c == 62 then codes "&gt;" else
+    (if c == 38 then codes "&amp;" else (if c == 34 then codes "&quot;" else printed c)))
 
 abbrev pub escaped : List ℕ → List ℕ
 escaped text = flat_map escape text

@@ -1,5 +1,6 @@
 -- Conditions over terms as they are kept and as plain values, and what is stated of their parts.
-use Rattle.std.specs.Prelude.{◌≡◌, ℕ, ◌<◌, List, [], ◌∷◌, map, length, Bool, true, false, Option, Some, None, cond, position, unwrap_or, nat_lt}
+use Rattle.std.specs.Prelude.{◌≡◌, ℕ, ◌<◌, List, [], ◌∷◌, map, length, Bool, true, false, Option, Some, None, cond}
+use Rattle.std.specs.Prelude.{position, unwrap_or, nat_lt}
 use Rattle.std.specs.List.{position_or_len}
 use Rattle.std.specs.Option.{option_map}
 use Rattle.std.proofs.Common.{refl, sym, ◌∙◌, ap, subst, arith}
@@ -9,11 +10,11 @@ use Rattle.gh_base.specs.declared.term.TermKind.{TermKind}
 use Rattle.gh_base.specs.declared.term.TermKind.TheVariants.{Null, Value, Next}
 use Rattle.gh_base.specs.declared.sizes.Sizes.{Sizes}
 use Rattle.gh_base.specs.Atoms.{term, terms_below}
-use Rattle.gh_ast.specs.Plain.{formula_of}
+use Rattle.gh_ast.specs.Plain.{assertion_of}
 use Rattle.gh_path.specs.Terms.{Kind, next, same_kind}
 use Rattle.gh_grass.specs.declared.binding.Bond.{Bond}
 use Rattle.gh_grass.specs.Bindings.{term_in, bound_term, is_next, next_term}
-use Rattle.gh_grass.specs.Claims.{claims_of}
+use Rattle.gh_grass.specs.Claims.{ground_formulas_of}
 use Rattle.gh_grass.specs.Footprints.{Variables, structure, footprint}
 use Rattle.gh_symb.specs.Symbolic.{Under}
 use Rattle.gh_symb.specs.Formulas.{variables, successor, within, meets, meets_whole, covers}
@@ -36,25 +37,35 @@ kind_same i x Null = refl
 kind_same i x (Value n) = refl
 kind_same i x (Next j y) = refl
 
-place_same : (i : ℕ) (x : Term) (ks : List TermKind) → position_or_len (same_kind (next i x.0)) (map plain_kind ks) ≡ position_or_len (is_next i x) ks
+place_same : (i : ℕ) (x : Term) (ks : List TermKind)
+    → position_or_len (same_kind (next i x.0)) (map plain_kind ks) ≡ position_or_len (is_next i x) ks
 place_same i x [] = refl
 place_same i x (k ∷ ks) = rw (kind_same i x k, place_same i x ks) refl
 
-position_same : (i : ℕ) (x : Term) (ks : List TermKind) → position (same_kind (next i x.0)) (map plain_kind ks) ≡ position (is_next i x) ks
+position_same : (i : ℕ) (x : Term) (ks : List TermKind)
+    → position (same_kind (next i x.0)) (map plain_kind ks) ≡ position (is_next i x) ks
 position_same i x ks = rw (place_same i x ks, length-map ks plain_kind) refl
 
 pub successor_is : (ks : List TermKind) (i : ℕ) → successor (map plain_kind ks) i ≡ next_term ks i
-successor_is ks i = same_function (successor (map plain_kind ks) i) (next_term ks i) (λ x. ap (λ (o : Option ℕ). term (unwrap_or o 0)) (position_same i x ks))
+successor_is ks i =
+    same_function (successor (map plain_kind ks) i) (next_term ks i)
+    (λ x. ap (λ (o : Option ℕ). term (unwrap_or o 0)) (position_same i x ks))
 
-pub within_is : (b : BoundAssertion) (z : Term) → footprint (bound_term b.binding) b.version z (formula_of b.assertion.now) ≡ within (under_of b) z
-within_is b z = ap (λ (v : Variables). footprint v b.version z (formula_of b.assertion.now)) (sym (variables_are b.binding))
+pub within_is : (b : BoundAssertion) (z : Term)
+    → footprint (bound_term b.binding) b.version z (assertion_of b.assertion.now) ≡ within (under_of b) z
+within_is b z =
+    ap (λ (v : Variables). footprint v b.version z (assertion_of b.assertion.now)) (sym (variables_are b.binding))
 
 pub meets_is : (ks : List TermKind) (b : BoundAssertion) →
-    structure (bound_term b.binding) (next_term ks b.version) b.version (length ks) (formula_of b.assertion.now) ≡ meets (map plain_kind ks) (under_of b)
+    structure (bound_term b.binding) (next_term ks b.version) b.version (length ks) (assertion_of b.assertion.now)
+    ≡ meets (map plain_kind ks) (under_of b)
 meets_is ks b =
-    ap (λ (v : Variables). structure v (next_term ks b.version) b.version (length ks) (formula_of b.assertion.now)) (sym (variables_are b.binding))
-    ∙ ap (λ (n : Term → Term). structure (variables (binding_of b.binding)) n b.version (length ks) (formula_of b.assertion.now)) (sym (successor_is ks b.version))
-    ∙ ap (λ (n : ℕ). structure (variables (binding_of b.binding)) (successor (map plain_kind ks) b.version) b.version n (formula_of b.assertion.now)) (sym (length-map ks plain_kind))
+    ap (λ (v : Variables). structure v (next_term ks b.version) b.version (length ks) (assertion_of b.assertion.now))
+    (sym (variables_are b.binding))
+    ∙ ap (λ (n : Term → Term). structure (variables (binding_of b.binding)) n b.version (length ks)
+    (assertion_of b.assertion.now)) (sym (successor_is ks b.version))
+    ∙ ap (λ (n : ℕ). structure (variables (binding_of b.binding)) (successor (map plain_kind ks) b.version) b.version n
+    (assertion_of b.assertion.now)) (sym (length-map ks plain_kind))
 
 -- the term of a successor is there
 successor_there : (n : ℕ) (ks : List Kind) (i : ℕ) → n ≡ length ks → 0 < n → (t : Term) → (successor ks i t).0 < n
@@ -73,17 +84,21 @@ successor_there n ks i e some t = at_place (position_or_len (same_kind (next i t
 abbrev there_of : (s : Sizes) (u : Under) → IsUnderInside s.terms s.versions u → AreThere s (variables u.binding)
 there_of s u h = record { names = h.terms }
 
-pub under_within : (s : Sizes) (u : Under) → IsUnderInside s.terms s.versions u → (z : Term) → z.0 < s.terms → IsWithin s (within u z)
+pub under_within : (s : Sizes) (u : Under) → IsUnderInside s.terms s.versions u → (z : Term) → z.0 < s.terms
+    → IsWithin s (within u z)
 under_within s u h z l = footprint_within s (variables u.binding) (there_of s u h) u.version h.version z l u.assertion
 
-pub meets_within : (s : Sizes) (ks : List Kind) (u : Under) → s.terms ≡ length ks → 0 < s.terms → IsUnderInside s.terms s.versions u → IsWithin s (meets ks u)
+pub meets_within : (s : Sizes) (ks : List Kind) (u : Under) → s.terms ≡ length ks → 0 < s.terms
+    → IsUnderInside s.terms s.versions u → IsWithin s (meets ks u)
 meets_within s ks u e some h =
     subst (λ (n : ℕ). IsWithin s (structure (variables u.binding) (successor ks u.version) u.version n u.assertion)) e
-    (structure_within s (variables u.binding) (there_of s u h) (successor ks u.version) (successor_there s.terms ks u.version e some) u.version h.version u.assertion)
+    (structure_within s (variables u.binding) (there_of s u h) (successor ks u.version)
+    (successor_there s.terms ks u.version e some) u.version h.version u.assertion)
 
-pub whole_within : (s : Sizes) (ks : List Kind) (u : Under) → s.terms ≡ length ks → 0 < s.terms → IsUnderInside s.terms s.versions u → IsWithin s (meets_whole ks u)
+pub whole_within : (s : Sizes) (ks : List Kind) (u : Under) → s.terms ≡ length ks → 0 < s.terms
+    → IsUnderInside s.terms s.versions u → IsWithin s (meets_whole ks u)
 whole_within s ks u e some h = (
   meets_within s ks u e some h,
-  subst (λ (n : ℕ). AreWithin s (claims_of (map (covers u) (terms_below n)))) e
+  subst (λ (n : ℕ). AreWithin s (ground_formulas_of (map (covers u) (terms_below n)))) e
       (below_within s (covers u) (λ z l. ((h.version, l), under_within s u h z l))),
 )

@@ -6,3 +6,4 @@ pub mod ClauseLemmas
 pub mod LiteralLemmas
 pub mod WalkLemmas
 pub mod PartLemmas
+mod GrownLemmas

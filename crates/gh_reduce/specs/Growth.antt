@@ -1,11 +1,11 @@
 -- Ground clauses that grow by those of some formulas.
-use Rattle.std.specs.Prelude.{ℕ, ◌+◌, ◌≤◌, List, ◌++◌, length}
+use Rattle.std.specs.Prelude.{◌≡◌, ℕ, ◌+◌, ◌≤◌, List, ◌++◌, length}
 use Rattle.gh_base.specs.declared.atom.Lit.{Lit}
 use Rattle.gh_base.specs.declared.sizes.Sizes.{Sizes}
 use Rattle.gh_base.specs.Atoms.{IsInRange}
 use Rattle.gh_base.specs.Grounds.{Problem}
-use Rattle.gh_grass.specs.Claims.{GroundClaim, atom, negation_of, conjunction_of, disjunction_of, equivalence_of, GroundClaims}
-use Rattle.gh_grass.specs.Claims.{no_claims, claim_first}
+use Rattle.gh_grass.specs.Claims.{GroundFormula, atom, negation_of, conjunction_of, disjunction_of, equivalence_of}
+use Rattle.gh_grass.specs.Claims.{GroundFormulas, no_ground_formulas, ground_formula_first}
 use Rattle.gh_grass.specs.Clauses.{made, all_made, next_after, clauses_from}
 
 -- the sizes with another number of definitions
@@ -29,16 +29,23 @@ abbrev pub with_defined : Problem → (ℕ → List (List Lit)) → Problem
 with_defined p f = grown p (p.sizes.defs + 1) (f p.sizes.defs)
 
 -- after the definitions of a formula
-abbrev pub defined_in : Problem → GroundClaim → Problem
+abbrev pub defined_in : Problem → GroundFormula → Problem
 defined_in p f = let r = made f p.sizes.defs in grown p r.next r.clauses
 
 -- after those of some formulas
-abbrev pub all_defined_in : Problem → GroundClaims → Problem
+abbrev pub all_defined_in : Problem → GroundFormulas → Problem
 all_defined_in p fs = let s = all_made fs p.sizes.defs in grown p s.next s.clauses
 
 -- after some formulas were stated
-abbrev pub stated_in : Problem → List GroundClaim → Problem
+abbrev pub stated_in : Problem → List GroundFormula → Problem
 stated_in p fs = grown p (next_after fs p.sizes.defs) (clauses_from fs p.sizes.defs)
+
+-- the terms, the versions and the clauses that were there stay; further clauses and definitions may have come
+pub record IsGrown (old new : Problem) : Type 0 where
+  pub terms : new.sizes.terms ≡ old.sizes.terms
+  pub versions : new.sizes.versions ≡ old.sizes.versions
+  pub further : List (List Lit)
+  pub clauses : new.clauses ≡ old.clauses ++ further
 
 -- there are no more definitions and clauses than are counted: the numbers of both are of 32 bits
 abbrev pub IsCountable : Problem → Type 0
@@ -46,13 +53,13 @@ IsCountable p = (p.sizes.defs ≤ 4294967295) × (length p.clauses ≤ 429496729
 
 -- each atom of the formula is in range
 abbrev mutual
-  pub IsWithin : Sizes → GroundClaim → Type 0
+  pub IsWithin : Sizes → GroundFormula → Type 0
   IsWithin s (atom a) = IsInRange s a
   IsWithin s (negation_of f) = IsWithin s f
   IsWithin s (conjunction_of fs) = AreWithin s fs
   IsWithin s (disjunction_of fs) = AreWithin s fs
   IsWithin s (equivalence_of f g) = IsWithin s f × IsWithin s g
 
-  pub AreWithin : Sizes → GroundClaims → Type 0
-  AreWithin s no_claims = Unit {0}
-  AreWithin s (claim_first f fs) = IsWithin s f × AreWithin s fs
+  pub AreWithin : Sizes → GroundFormulas → Type 0
+  AreWithin s no_ground_formulas = Unit {0}
+  AreWithin s (ground_formula_first f fs) = IsWithin s f × AreWithin s fs

@@ -1,12 +1,12 @@
 //! The clauses of a formula: each conjunction, disjunction and equivalence in it is defined anew.
 
-ghost use Rattle.std.specs.Prelude.{◌≡◌, ◌∷◌, [], IfOk, OnOk, map};
+ghost use Rattle.std.specs.Prelude.{◌≡◌, ◌∷◌, [], IfOk, OnErr, OnOk, map};
 ghost use Rattle.gh_base.specs.Atoms.{opposite, IsInRange, AreInRange};
-ghost use Rattle.gh_grass.specs.Claims.{claim_of, claims_list, claims_view};
+ghost use Rattle.gh_grass.specs.Claims.{ground_formula_of, ground_formula_list, ground_formulas_view};
 ghost use Rattle.gh_grass.specs.Clauses.{defined, made, all_made, conjunction_clauses, disjunction_clauses};
 ghost use Rattle.gh_grass.specs.Clauses.{equivalence_clauses};
 ghost use Rattle.gh_reduce.specs.Growth.{defined_in, all_defined_in, stated_in, IsCountable, IsWithin, AreWithin};
-ghost use Rattle.gh_reduce.specs.Growth.{with_clauses, with_defined, with_definition};
+ghost use Rattle.gh_reduce.specs.Growth.{with_clauses, with_defined, with_definition, IsGrown};
 
 use gh_base::atom::{Atom, Lit};
 use gh_base::clause::Clause;
@@ -26,6 +26,7 @@ pub(crate) fn counted(ground: &Ground)
 fn define(ground: &mut Ground) -> Result<Lit, AllocError>
     ensures number { IfOk result (λ l. l ≡ defined ground.old.sizes.defs) }
     ensures counted { OnOk result (ground.new ≡ with_definition ground.old) }
+    ensures grown { OnErr result (IsGrown ground.old ground.new) }
 {
     if ground.defs() == u32::MAX {
         return Err(AllocError);
@@ -40,7 +41,8 @@ fn define(ground: &mut Ground) -> Result<Lit, AllocError>
 // Adds a clause last, unless there are as many as may be.
 fn add(ground: &mut Ground, clause: Clause) -> Result<(), AllocError>
     requires { AreInRange ground.old.sizes clause }
-    ensures { OnOk result (ground.new ≡ with_clauses ground.old (clause ∷ [])) }
+    ensures added { OnOk result (ground.new ≡ with_clauses ground.old (clause ∷ [])) }
+    ensures grown { OnErr result (IsGrown ground.old ground.new) }
 {
     if ground.count() == 4_294_967_294 {
         return Err(AllocError);
@@ -53,7 +55,8 @@ fn add(ground: &mut Ground, clause: Clause) -> Result<(), AllocError>
 fn add_pairs(alloc: Global, ground: &mut Ground, first: Lit, lits: &[Lit]) -> Result<(), AllocError>
     requires first { IsInRange ground.old.sizes first.atom }
     requires others { AreInRange ground.old.sizes lits.now }
-    ensures { OnOk result (ground.new ≡ with_clauses ground.old (map (λ l. first ∷ l ∷ []) lits.now)) }
+    ensures added { OnOk result (ground.new ≡ with_clauses ground.old (map (λ l. first ∷ l ∷ []) lits.now)) }
+    ensures grown { OnErr result (IsGrown ground.old ground.new) }
 {
     for lit in lits {
         add(ground, Clause::from_array(alloc, [first, *lit]))?;
@@ -65,7 +68,8 @@ fn add_pairs(alloc: Global, ground: &mut Ground, first: Lit, lits: &[Lit]) -> Re
 fn add_long(alloc: Global, ground: &mut Ground, first: Lit, lits: &[Lit]) -> Result<(), AllocError>
     requires first { IsInRange ground.old.sizes first.atom }
     requires others { AreInRange ground.old.sizes lits.now }
-    ensures { OnOk result (ground.new ≡ with_clauses ground.old ((first ∷ lits.now) ∷ [])) }
+    ensures added { OnOk result (ground.new ≡ with_clauses ground.old ((first ∷ lits.now) ∷ [])) }
+    ensures grown { OnErr result (IsGrown ground.old ground.new) }
 {
     let mut clause = Clause::new(alloc);
     clause.push(first)?;
@@ -91,6 +95,7 @@ fn conjunction(alloc: Global, ground: &mut Ground, lits: &[Lit]) -> Result<Lit, 
     requires { AreInRange ground.old.sizes lits.now }
     ensures number { IfOk result (λ l. l ≡ defined ground.old.sizes.defs) }
     ensures state { OnOk result (ground.new ≡ with_defined ground.old (λ k. conjunction_clauses k lits.now)) }
+    ensures grown { OnErr result (IsGrown ground.old ground.new) }
 {
     let defined = define(ground)?;
     add_pairs(alloc, ground, defined.negated(), lits)?;
@@ -104,6 +109,7 @@ fn disjunction(alloc: Global, ground: &mut Ground, lits: &[Lit]) -> Result<Lit, 
     requires { AreInRange ground.old.sizes lits.now }
     ensures number { IfOk result (λ l. l ≡ defined ground.old.sizes.defs) }
     ensures state { OnOk result (ground.new ≡ with_defined ground.old (λ k. disjunction_clauses k lits.now)) }
+    ensures grown { OnErr result (IsGrown ground.old ground.new) }
 {
     let defined = define(ground)?;
     let opposites = opposites(alloc, lits)?;
@@ -118,6 +124,7 @@ fn equivalence(alloc: Global, ground: &mut Ground, left: Lit, right: Lit) -> Res
     requires right { IsInRange ground.old.sizes right.atom }
     ensures number { IfOk result (λ l. l ≡ defined ground.old.sizes.defs) }
     ensures state { OnOk result (ground.new ≡ with_defined ground.old (λ k. equivalence_clauses k left right)) }
+    ensures grown { OnErr result (IsGrown ground.old ground.new) }
 {
     let defined = define(ground)?;
     let fails = defined.negated();
@@ -135,9 +142,10 @@ fn equivalence(alloc: Global, ground: &mut Ground, left: Lit, right: Lit) -> Res
 // Defines a formula, and gives its literal.
 #[cycle(literal)]
 fn literal(alloc: Global, ground: &mut Ground, formula: &Formula) -> Result<Lit, AllocError>
-    requires { IsWithin ground.old.sizes (claim_of formula.now) }
-    ensures literal { IfOk result (λ l. l ≡ (made (claim_of formula.now) ground.old.sizes.defs).lit) }
-    ensures state { OnOk result (ground.new ≡ defined_in ground.old (claim_of formula.now)) }
+    requires { IsWithin ground.old.sizes (ground_formula_of formula.now) }
+    ensures literal { IfOk result (λ l. l ≡ (made (ground_formula_of formula.now) ground.old.sizes.defs).lit) }
+    ensures state { OnOk result (ground.new ≡ defined_in ground.old (ground_formula_of formula.now)) }
+    ensures grown { OnErr result (IsGrown ground.old ground.new) }
 {
     match formula {
         Formula::Atom(atom) => Ok(Lit {
@@ -167,10 +175,11 @@ fn literals(
     ground: &mut Ground,
     formulas: &[Formula],
 ) -> Result<Vec<Lit>, AllocError>
-    requires { AreWithin ground.old.sizes (claims_view formulas.now) }
+    requires { AreWithin ground.old.sizes (ground_formulas_view formulas.now) }
     ensures literals { IfOk result (λ ls.
-        ls.items ≡ (all_made (claims_view formulas.now) ground.old.sizes.defs).lits) }
-    ensures state { OnOk result (ground.new ≡ all_defined_in ground.old (claims_view formulas.now)) }
+        ls.items ≡ (all_made (ground_formulas_view formulas.now) ground.old.sizes.defs).lits) }
+    ensures state { OnOk result (ground.new ≡ all_defined_in ground.old (ground_formulas_view formulas.now)) }
+    ensures grown { OnErr result (IsGrown ground.old ground.new) }
 {
     let mut lits = Vec::new(alloc);
     for formula in formulas {
@@ -182,8 +191,9 @@ fn literals(
 /// States a formula: its definitions, and the clause of its literal. A clause or a definition too many counts
 /// as out of memory.
 pub fn add_formula(alloc: Global, ground: &mut Ground, formula: &Formula) -> Result<(), AllocError>
-    requires { IsWithin ground.old.sizes (claim_of formula.now) }
-    ensures stated { OnOk result (ground.new ≡ stated_in ground.old (claim_of formula.now ∷ [])) }
+    requires { IsWithin ground.old.sizes (ground_formula_of formula.now) }
+    ensures stated { OnOk result (ground.new ≡ stated_in ground.old (ground_formula_of formula.now ∷ [])) }
+    ensures grown { OnErr result (IsGrown ground.old ground.new) }
     ensures few { OnOk result (IsCountable ground.new) }
 {
     let lit = literal(alloc, ground, formula)?;
@@ -198,8 +208,9 @@ pub fn add_formulas(
     ground: &mut Ground,
     formulas: &[Formula],
 ) -> Result<(), AllocError>
-    requires { AreWithin ground.old.sizes (claims_view formulas.now) }
-    ensures stated { OnOk result (ground.new ≡ stated_in ground.old (claims_list formulas.now)) }
+    requires { AreWithin ground.old.sizes (ground_formulas_view formulas.now) }
+    ensures stated { OnOk result (ground.new ≡ stated_in ground.old (ground_formula_list formulas.now)) }
+    ensures grown { OnErr result (IsGrown ground.old ground.new) }
     ensures few { OnOk result (IsCountable ground.new) }
 {
     for formula in formulas {

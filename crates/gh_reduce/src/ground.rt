@@ -6,9 +6,9 @@ ghost use Rattle.gh_symb.specs.Encodings.{plain_kind};
 ghost use Rattle.gh_symb.specs.Encoded.{plain_of};
 ghost use Rattle.gh_symb.specs.Inside.{under_of, step_of, check_of};
 ghost use Rattle.gh_symb.specs.Inside.{AllAreInside, AreStepsInside, IsCheckInside, AreKinds, IsStepInside};
-ghost use Rattle.gh_symb.specs.Formulas.{succeeds, successor_claims, successors_from, version_claims, version_after};
-ghost use Rattle.gh_symb.specs.Formulas.{written_claims, freed_claims, claims, problem};
-ghost use Rattle.gh_grass.specs.Claims.{claim_of, negation_of};
+ghost use Rattle.gh_symb.specs.Formulas.{succeeds, successor_formulas, successors_from, version_formulas};
+ghost use Rattle.gh_symb.specs.Formulas.{version_after, write_formulas, free_formulas, condition_formulas, problem};
+ghost use Rattle.gh_grass.specs.Claims.{ground_formula_of, negation_of};
 ghost use Rattle.gh_reduce.specs.Growth.{stated_in, IsCountable, IsWithin};
 ghost use Rattle.gh_reduce.specs.Rows.{kinds_of};
 ghost use Rattle.gh_reduce.specs.Stated.{all_versions, cell_made, check_fails, none_is_met, step_stated, steps_stated};
@@ -59,7 +59,7 @@ fn add_kind(
     requires version { version < ground.old.sizes.versions }
     requires of { (i x : ℕ) → plain_kind kind ≡ next i x → x < ground.old.sizes.terms }
     requires term { t.0 < ground.old.sizes.terms }
-    ensures { OnOk result (ground.new ≡ stated_in ground.old (successor_claims version t.0 (plain_kind kind))) }
+    ensures { OnOk result (ground.new ≡ stated_in ground.old (successor_formulas version t.0 (plain_kind kind))) }
 {
     match kind {
         TermKind::Null => Ok(()),
@@ -102,7 +102,7 @@ pub fn add_version(
 ) -> Result<(), AllocError>
     requires version { version < ground.old.sizes.versions }
     requires ready { AreKinds ground.old.sizes.terms (kinds_of terms.now) }
-    ensures stated { OnOk result (ground.new ≡ stated_in ground.old (version_claims (kinds_of terms.now) version)) }
+    ensures stated { OnOk result (ground.new ≡ stated_in ground.old (version_formulas (kinds_of terms.now) version)) }
     ensures few { OnOk result (IsCountable ground.new) }
 {
     let null = free(alloc, version, Term(0))?;
@@ -117,7 +117,8 @@ pub fn add_version(
     Ok(())
 }
 
-fn add_versions(alloc: Global, ground: &mut Ground, terms: &TermList) -> Result<(), AllocError>
+/// Adds what holds in each version, in order.
+pub fn add_versions(alloc: Global, ground: &mut Ground, terms: &TermList) -> Result<(), AllocError>
     requires { AreKinds ground.old.sizes.terms (kinds_of terms.now) }
     ensures { OnOk result (ground.new ≡ stated_in ground.old (all_versions ground.old terms.now)) }
 {
@@ -139,7 +140,7 @@ fn add_write(
     requires few { ground.old.sizes.versions < 256 }
     requires x { x.0 < ground.old.sizes.terms }
     requires value { value.0 < ground.old.sizes.terms }
-    ensures { OnOk result (ground.new ≡ stated_in ground.old (written_claims ground.old.sizes.terms old x value)) }
+    ensures { OnOk result (ground.new ≡ stated_in ground.old (write_formulas ground.old.sizes.terms old x value)) }
 {
     let new = old + 1;
     let same = EachTerm::Same { old, new };
@@ -184,7 +185,7 @@ fn add_free(alloc: Global, ground: &mut Ground, old: u8, x: Term) -> Result<(), 
     requires version { old + 1 < ground.old.sizes.versions }
     requires few { ground.old.sizes.versions < 256 }
     requires x { x.0 < ground.old.sizes.terms }
-    ensures { OnOk result (ground.new ≡ stated_in ground.old (freed_claims ground.old.sizes.terms old x)) }
+    ensures { OnOk result (ground.new ≡ stated_in ground.old (free_formulas ground.old.sizes.terms old x)) }
 {
     let new = old + 1;
     let freed = EachTerm::Freed { old, new, x };
@@ -193,8 +194,8 @@ fn add_free(alloc: Global, ground: &mut Ground, old: u8, x: Term) -> Result<(), 
     Ok(add_each_pair(alloc, ground, &others)?)
 }
 
-// What a step from a version says.
-fn add_step(
+/// Adds what a step from a version says.
+pub fn add_step(
     alloc: Global,
     ground: &mut Ground,
     version: u8,
@@ -232,8 +233,8 @@ fn add_step(
     }
 }
 
-// How many versions a step begins.
-fn versions_begun(step: &TermStep) -> u8
+/// How many versions a step begins: one where it changes the heap, else none.
+pub fn versions_begun(step: &TermStep) -> u8
     ensures after { (i : ℕ) → version_after i (step_of step.now) ≡ i + result }
     ensures few { result ≤ 1 }
 {
@@ -270,8 +271,8 @@ fn add_steps(
 
 // A formula is false.
 fn add_failing(alloc: Global, ground: &mut Ground, formula: Formula) -> Result<(), AllocError>
-    requires { IsWithin ground.old.sizes (claim_of formula) }
-    ensures { OnOk result (ground.new ≡ stated_in ground.old (negation_of (claim_of formula) ∷ [])) }
+    requires { IsWithin ground.old.sizes (ground_formula_of formula) }
+    ensures { OnOk result (ground.new ≡ stated_in ground.old (negation_of (ground_formula_of formula) ∷ [])) }
 {
     let fails = formula.negated(alloc)?;
     Ok(add_formula(alloc, ground, &fails)?)
@@ -295,8 +296,8 @@ fn add_not_whole(
     }
 }
 
-// The check fails, in the last version.
-fn add_check(
+/// Adds that the check fails, in the last version.
+pub fn add_check(
     alloc: Global,
     ground: &mut Ground,
     check: &TermCheck,
@@ -325,7 +326,7 @@ fn add_condition(alloc: Global, ground: &mut Ground, symbolic: &Symbolic) -> Res
     requires terms { ground.old.sizes.terms ≡ length symbolic.now.terms }
     requires versions { ground.old.sizes.versions ≡ symbolic.now.versions }
     requires few { ground.old.sizes.versions < 256 }
-    ensures { OnOk result (ground.new ≡ stated_in ground.old (claims (plain_of symbolic.now))) }
+    ensures { OnOk result (ground.new ≡ stated_in ground.old (condition_formulas (plain_of symbolic.now))) }
 {
     let terms = symbolic.terms();
     add_versions(alloc, ground, terms)?;

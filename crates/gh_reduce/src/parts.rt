@@ -1,7 +1,7 @@
 //! A part of the heap that gives way to one of some alternatives.
 
 ghost use Rattle.std.specs.Prelude.{◌≡◌, ◌<◌, IfOk, OnOk};
-ghost use Rattle.gh_grass.specs.Claims.{claim_of, claims_list};
+ghost use Rattle.gh_grass.specs.Claims.{ground_formula_of, ground_formula_list};
 ghost use Rattle.gh_symb.specs.Inside.{AreKinds};
 ghost use Rattle.gh_reduce.specs.Growth.{stated_in};
 ghost use Rattle.gh_reduce.specs.Parts.{alternatives_stated, change_stated, one_is_placed, placed_list, IsChangeInside};
@@ -25,7 +25,7 @@ fn placed<'s, 'a>(
     terms: &TermList,
 ) -> Result<Vec<Formula>, AllocError>
     requires { old < 255 }
-    ensures { IfOk result (λ fs. claims_list fs.items ≡ placed_list (kinds_of terms.now) old before.now after.now) }
+    ensures { IfOk result (λ fs. ground_formula_list fs.items ≡ placed_list (kinds_of terms.now) old before.now after.now) }
 {
     let new = old + 1;
     let mut members = Vec::new(alloc);
@@ -51,7 +51,7 @@ fn one_placed<'s, 'a>(
     terms: &TermList,
 ) -> Result<Formula, AllocError>
     requires { old < 255 }
-    ensures { IfOk result (λ f. claim_of f ≡ one_is_placed (kinds_of terms.now) old before.now after.now) }
+    ensures { IfOk result (λ f. ground_formula_of f ≡ one_is_placed (kinds_of terms.now) old before.now after.now) }
 {
     let mut members = Vec::new(alloc);
     for bound in after {

@@ -1,13 +1,13 @@
 //! What is stated of each term, or of each two terms.
 
 ghost use Rattle.std.specs.Prelude.{◌≡◌, ◌<◌, IfOk, OnOk};
-ghost use Rattle.gh_grass.specs.Claims.{claim_of, claims_list};
+ghost use Rattle.gh_grass.specs.Claims.{ground_formula_of, ground_formula_list};
 ghost use Rattle.gh_reduce.specs.Growth.{stated_in, IsCountable};
 ghost use Rattle.gh_reduce.specs.Rows.{of_term, of_pair, said_of_each, said_of_pairs, with_each};
 ghost use Rattle.gh_reduce.specs.Rows.{IsEachTermInside, IsEachPairInside};
 
 use crate::clauses::{add_formula, counted};
-use crate::statements::{allocated, kept, leads, same_hops, within};
+use crate::statements::{allocated, leads, outside_footprint, same_hops, within};
 use gh_base::atom::Term;
 use gh_base::ground::Ground;
 use gh_grass::formula::Formula;
@@ -68,7 +68,7 @@ pub enum EachPair<'s, 'a> {
 impl EachTerm<'_, '_> {
     // The statement of a term.
     fn formula(&self, alloc: Global, z: Term) -> Result<Formula, AllocError>
-        ensures { IfOk result (λ f. claim_of f ≡ of_term self.now z) }
+        ensures { IfOk result (λ f. ground_formula_of f ≡ of_term self.now z) }
     {
         match self {
             EachTerm::Leads { version, terms } => Ok(leads(alloc, *terms, *version, z)?),
@@ -84,7 +84,7 @@ impl EachTerm<'_, '_> {
             }
             EachTerm::Apart { old, before, after } => {
                 let inside = within(alloc, after, z)?;
-                let both = kept(alloc, *old, before, z)?.and(alloc, inside)?;
+                let both = outside_footprint(alloc, *old, before, z)?.and(alloc, inside)?;
                 Ok(both.negated(alloc)?)
             }
             EachTerm::Replaced {
@@ -94,7 +94,7 @@ impl EachTerm<'_, '_> {
                 after,
             } => {
                 let inside = within(alloc, after, z)?;
-                let either = kept(alloc, *old, before, z)?.or(alloc, inside)?;
+                let either = outside_footprint(alloc, *old, before, z)?.or(alloc, inside)?;
                 Ok(allocated(*new, z).iff(alloc, either)?)
             }
         }
@@ -104,7 +104,7 @@ impl EachTerm<'_, '_> {
 impl EachPair<'_, '_> {
     // The statement of two terms.
     fn formula(&self, alloc: Global, z: Term, v: Term) -> Result<Formula, AllocError>
-        ensures { IfOk result (λ f. claim_of f ≡ of_pair self.now z v) }
+        ensures { IfOk result (λ f. ground_formula_of f ≡ of_pair self.now z v) }
     {
         match self {
             EachPair::Others { old, new, x } => {
@@ -113,7 +113,7 @@ impl EachPair<'_, '_> {
             }
             EachPair::Kept { old, new, before } => {
                 let same = same_hops(alloc, *new, *old, z, v)?;
-                let gone = kept(alloc, *old, before, z)?.negated(alloc)?;
+                let gone = outside_footprint(alloc, *old, before, z)?.negated(alloc)?;
                 Ok(gone.or(alloc, same)?)
             }
         }
@@ -127,7 +127,7 @@ pub fn push_each_term(
     each: &EachTerm,
     terms: u8,
 ) -> Result<(), AllocError>
-    ensures { OnOk result (claims_list members.new.items ≡ with_each members.old.items terms (of_term each.now)) }
+    ensures { OnOk result (ground_formula_list members.new.items ≡ with_each members.old.items terms (of_term each.now)) }
 {
     for z in 0..terms {
         members.push(each.formula(alloc, Term(z))?)?;

@@ -1,7 +1,7 @@
 //! Formulas about cells, terms and parts of the heap.
 
 ghost use Rattle.std.specs.Prelude.{◌≡◌, ◌∷◌, [], IfOk};
-ghost use Rattle.gh_grass.specs.Claims.{claim_of, negation_of, one_of, equality};
+ghost use Rattle.gh_grass.specs.Claims.{ground_formula_of, negation_of, one_of, equality};
 ghost use Rattle.gh_symb.specs.Formulas as formulas;
 ghost use Rattle.gh_symb.specs.Inside.{under_of};
 ghost use Rattle.gh_reduce.specs.Rows.{kinds_of, same_hops};
@@ -16,28 +16,28 @@ use std::alloc::{AllocError, Global};
 
 /// A formula that is false.
 pub fn never(alloc: Global) -> Formula
-    ensures { claim_of result ≡ one_of [] }
+    ensures { ground_formula_of result ≡ one_of [] }
 {
     Formula::Or(Vec::new(alloc))
 }
 
 /// A term is allocated.
 pub fn allocated(version: u8, x: Term) -> Formula
-    ensures { claim_of result ≡ formulas.allocated version x }
+    ensures { ground_formula_of result ≡ formulas.allocated version x }
 {
     Formula::Atom(Atom::Alloc { version, x })
 }
 
 /// A term isn't allocated.
 pub fn free(alloc: Global, version: u8, x: Term) -> Result<Formula, AllocError>
-    ensures { IfOk result (λ f. claim_of f ≡ negation_of (formulas.allocated version x)) }
+    ensures { IfOk result (λ f. ground_formula_of f ≡ negation_of (formulas.allocated version x)) }
 {
     Ok(allocated(version, x).negated(alloc)?)
 }
 
 /// The cell at a term leads to another.
 pub fn hops(version: u8, x: Term, v: Term) -> Formula
-    ensures { claim_of result ≡ formulas.hops version x v }
+    ensures { ground_formula_of result ≡ formulas.hops version x v }
 {
     Formula::Atom(Atom::Hop { version, x, v })
 }
@@ -49,7 +49,7 @@ pub fn next_where_allocated(
     x: Term,
     next: Term,
 ) -> Result<Formula, AllocError>
-    ensures { IfOk result (λ f. claim_of f ≡ next_where_allocated version x next) }
+    ensures { IfOk result (λ f. ground_formula_of f ≡ next_where_allocated version x next) }
 {
     Ok(free(alloc, version, x)?.or(alloc, hops(version, x, next))?)
 }
@@ -61,40 +61,40 @@ pub fn same_where_free(
     x: Term,
     next: Term,
 ) -> Result<Formula, AllocError>
-    ensures { IfOk result (λ f. claim_of f ≡ one_of (formulas.allocated version x ∷ equality x next ∷ [])) }
+    ensures { IfOk result (λ f. ground_formula_of f ≡ one_of (formulas.allocated version x ∷ equality x next ∷ [])) }
 {
     Ok(allocated(version, x).or(alloc, Formula::equal(x, next))?)
 }
 
 /// The cell at a term leads to another in one version where it does in the other.
 pub fn same_hops(alloc: Global, new: u8, old: u8, z: Term, v: Term) -> Result<Formula, AllocError>
-    ensures { IfOk result (λ f. claim_of f ≡ same_hops new old z v) }
+    ensures { IfOk result (λ f. ground_formula_of f ≡ same_hops new old z v) }
 {
     Ok(hops(new, z, v).iff(alloc, hops(old, z, v))?)
 }
 
 /// A term is in the footprint of an assertion.
 pub fn within(alloc: Global, bound: &BoundAssertion, z: Term) -> Result<Formula, AllocError>
-    ensures { IfOk result (λ f. claim_of f ≡ formulas.within (under_of bound.now) z) }
+    ensures { IfOk result (λ f. ground_formula_of f ≡ formulas.within (under_of bound.now) z) }
 {
     Ok(footprint_at(alloc, bound.assertion, &bound.binding, bound.version, z)?)
 }
 
 /// Some part of the heap meets an assertion.
 pub fn meets(alloc: Global, bound: &BoundAssertion, terms: &TermList) -> Result<Formula, AllocError>
-    ensures { IfOk result (λ f. claim_of f ≡ formulas.meets (kinds_of terms.now) (under_of bound.now)) }
+    ensures { IfOk result (λ f. ground_formula_of f ≡ formulas.meets (kinds_of terms.now) (under_of bound.now)) }
 {
     Ok(structure_of(alloc, bound.assertion, &bound.binding, bound.version, terms)?)
 }
 
 /// A term is allocated, and isn't in the footprint of an assertion.
-pub fn kept(
+pub fn outside_footprint(
     alloc: Global,
     version: u8,
     bound: &BoundAssertion,
     z: Term,
 ) -> Result<Formula, AllocError>
-    ensures { IfOk result (λ f. claim_of f ≡ formulas.kept version (under_of bound.now) z) }
+    ensures { IfOk result (λ f. ground_formula_of f ≡ formulas.outside_footprint version (under_of bound.now) z) }
 {
     let outside = within(alloc, bound, z)?.negated(alloc)?;
     Ok(allocated(version, z).and(alloc, outside)?)
@@ -102,7 +102,7 @@ pub fn kept(
 
 /// What is allocated leads to one of some terms.
 pub fn leads(alloc: Global, terms: u8, version: u8, x: Term) -> Result<Formula, AllocError>
-    ensures { IfOk result (λ f. claim_of f ≡ formulas.leads terms version x) }
+    ensures { IfOk result (λ f. ground_formula_of f ≡ formulas.leads terms version x) }
 {
     let mut members = Vec::new(alloc);
     members.push(allocated(version, x).negated(alloc)?)?;
@@ -114,7 +114,7 @@ pub fn leads(alloc: Global, terms: u8, version: u8, x: Term) -> Result<Formula, 
 
 // A term is allocated exactly where it is in the footprint of an assertion.
 fn covers(alloc: Global, bound: &BoundAssertion, z: Term) -> Result<Formula, AllocError>
-    ensures { IfOk result (λ f. claim_of f ≡ formulas.covers (under_of bound.now) z) }
+    ensures { IfOk result (λ f. ground_formula_of f ≡ formulas.covers (under_of bound.now) z) }
 {
     let inside = within(alloc, bound, z)?;
     Ok(allocated(bound.version, z).iff(alloc, inside)?)
@@ -126,7 +126,7 @@ pub fn meets_whole(
     bound: &BoundAssertion,
     terms: &TermList,
 ) -> Result<Formula, AllocError>
-    ensures { IfOk result (λ f. claim_of f ≡ formulas.meets_whole (kinds_of terms.now) (under_of bound.now)) }
+    ensures { IfOk result (λ f. ground_formula_of f ≡ formulas.meets_whole (kinds_of terms.now) (under_of bound.now)) }
 {
     let mut members = Vec::new(alloc);
     members.push(meets(alloc, bound, terms)?)?;
@@ -142,7 +142,7 @@ pub fn meets_one(
     bounds: &[BoundAssertion],
     terms: &TermList,
 ) -> Result<Formula, AllocError>
-    ensures { IfOk result (λ f. claim_of f ≡ one_is_met (kinds_of terms.now) bounds.now) }
+    ensures { IfOk result (λ f. ground_formula_of f ≡ one_is_met (kinds_of terms.now) bounds.now) }
 {
     let mut members = Vec::new(alloc);
     for bound in bounds {

@@ -18,12 +18,17 @@ last_there c [] = member_first c []
 last_there c (d ∷ ds) = member_later c (last_of d ds) (d ∷ ds) (last_there d ds)
 
 -- the run is good, beside what lies outside the footprint
-good_run : (P : Program) (b : Begin) (proc : Procedure) (n k : ℕ) (s : State) (ds : List Config) → IsGood P → BeginsIn P b proc → (well : IsCalledWell proc (begun proc b)) → ComesTo P (begun proc b) n ds k s → IsGoodRun proc well.1 (begun proc b) ds
+good_run : (P : Program) (b : Begin) (proc : Procedure) (n k : ℕ) (s : State) (ds : List Config) → IsGood P
+    → BeginsIn P b proc → (well : IsCalledWell proc (begun proc b)) → ComesTo P (begun proc b) n ds k s
+    → IsGoodRun proc well.1 (begun proc b) ds
 good_run P b proc n k s ds good begins well comes =
-    good proc (member_at P b.procedure proc begins.numbered) (store_of b.store) b.heap well.0 well.1 well.2 well.3 ds (plain_run P (begun proc b) ds comes.run.ruled)
+    good proc (member_at P b.procedure proc begins.numbered) (store_of b.store) b.heap well.0 well.1 well.2 well.3 ds
+    (plain_run P (begun proc b) ds comes.run.ruled)
 
 by_fault : (P : Program) (b : Begin) (n k : ℕ) (s : State) → IsReport P b n (Faulted k s) → IsGood P → ⊥
-by_fault P b n k s (proc, begins, (well, ds, comes, goes, fault)) good = (good_run P b proc n k s ds good begins well comes).never_faults (last_of (begun proc b) ds) (last_there (begun proc b) ds) fault
+by_fault P b n k s (proc, begins, (well, ds, comes, goes, fault)) good =
+    (good_run P b proc n k s ds good begins well comes).never_faults (last_of (begun proc b) ds)
+    (last_there (begun proc b) ds) fault
 
 by_end : (P : Program) (b : Begin) (n k : ℕ) (s : State) → IsReport P b n (Ended k s false) → IsGood P → ⊥
 by_end P b n k s (proc, begins, (well, ds, comes, goes, ended, tells)) good =

@@ -17,10 +17,12 @@ pub record ReportsRefute : Type 0 where
 
 -- on a run of at most n steps there is at most one report
 abbrev pub ReportsAreOne : Type 0
-ReportsAreOne = (P : Program) (b : Begin) (n : ℕ) (r t : Report) → IsTyped P → IsReport P b n r → IsReport P b n t → r ≡ t
+ReportsAreOne =
+    (P : Program) (b : Begin) (n : ℕ) (r t : Report) → IsTyped P → IsReport P b n r → IsReport P b n t → r ≡ t
 
 -- a text is a state file of one state, or has one first line that isn't as said
 pub record StateFilesAreOne : Type 0 where
-  pub state : (P : Program) (text : List ℕ) (b c : Begin) → IsTyped P → IsStateFile P text b → IsStateFile P text c → b ≡ c
+  pub state : (P : Program) (text : List ℕ) (b c : Begin) → IsTyped P → IsStateFile P text b → IsStateFile P text c
+      → b ≡ c
   pub line : (P : Program) (text : List ℕ) (n m : ℕ) → IsFaultyLine P text n → IsFaultyLine P text m → n ≡ m
   pub not_both : (P : Program) (text : List ℕ) (b : Begin) (n : ℕ) → IsStateFile P text b → IsFaultyLine P text n → ⊥

@@ -59,10 +59,13 @@ IsCalledWell p c = HasPart p.needs c.top.store c.heap
 
 abbrev pub IsReportOn : Program → Procedure → Config → ℕ → Report → Type 0
 IsReportOn P proc c n Unmet = IsCalledWell proc c → ⊥
-IsReportOn P proc c n (Stopped steps s) = IsCalledWell proc c × (ds : List Config) × ComesTo P c n ds steps s × IsStopped c n ds
-IsReportOn P proc c n (Faulted steps s) = IsCalledWell proc c × (ds : List Config) × ComesTo P c n ds steps s × (IsStopped c n ds → ⊥) × Fault (last_of c ds)
+IsReportOn P proc c n (Stopped steps s) =
+    IsCalledWell proc c × (ds : List Config) × ComesTo P c n ds steps s × IsStopped c n ds
+IsReportOn P proc c n (Faulted steps s) =
+    IsCalledWell proc c × (ds : List Config) × ComesTo P c n ds steps s × (IsStopped c n ds → ⊥) × Fault (last_of c ds)
 IsReportOn P proc c n (Ended steps s met) =
-    IsCalledWell proc c × (ds : List Config) × ComesTo P c n ds steps s × (IsStopped c n ds → ⊥) × HasEnded (last_of c ds) × (IsTrue met ↔ IsMet proc c (last_of c ds))
+    IsCalledWell proc c × (ds : List Config) × ComesTo P c n ds steps s × (IsStopped c n ds → ⊥)
+    × HasEnded (last_of c ds) × (IsTrue met ↔ IsMet proc c (last_of c ds))
 
 -- the report on at most n steps
 abbrev pub IsReport : Program → Begin → ℕ → Report → Type 0

@@ -45,4 +45,5 @@ SomeReturns c (d ∷ ds) = ReturnsLast c ⊎ SomeReturns d ds
 -- k of the steps are not the return of the first activation
 abbrev pub CountsSteps : Config → List Config → ℕ → Type 0
 CountsSteps c [] k = k ≡ 0
-CountsSteps c (d ∷ ds) k = (ReturnsLast c × CountsSteps d ds k) ⊎ ((ReturnsLast c → ⊥) × (m : ℕ) × (k ≡ suc m) × CountsSteps d ds m)
+CountsSteps c (d ∷ ds) k =
+    (ReturnsLast c × CountsSteps d ds k) ⊎ ((ReturnsLast c → ⊥) × (m : ℕ) × (k ≡ suc m) × CountsSteps d ds m)

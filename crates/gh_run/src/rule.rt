@@ -62,7 +62,8 @@ pub fn run_ruled<'p>(
         match ruled_step(alloc, typed, config)? {
             Next::Moved => {}
             Next::Fault => return Ok((steps, Halt::Faulted)),
-            Next::Ended | Next::NotAChoice => return Ok((steps, Halt::Ended)),
+            Next::Ended => return Ok((steps, Halt::Ended)),
+            Next::NotAChoice => unreachable!(),
         }
     }
     Ok((limit, Halt::Stopped))

@@ -11,8 +11,8 @@ use Rattle.gh_base.specs.Atoms.{opposite, AreInRange, IsInRange}
 use Rattle.gh_base.specs.Propagation.{Propagated, FollowsByUnits}
 use Rattle.gh_base.specs.Propagation.Propagated.{given, forced}
 use Rattle.gh_sat.specs.declared.trail.Step.{Step}
-use Rattle.gh_sat.specs.Trail.{Line, SearchState, cut, Stands, IsTrueIn, IsFalseIn, IsReason, IsLevelStart, IsOpenedOrForced}
-use Rattle.gh_sat.specs.Trail.{IsSound, IsUnitIn}
+use Rattle.gh_sat.specs.Trail.{Line, SearchState, cut, Stands, IsTrueIn, IsFalseIn, IsReason, IsLevelStart}
+use Rattle.gh_sat.specs.Trail.{IsOpenedOrForced, IsSound, IsUnitIn}
 use Rattle.gh_sat.specs.Watch.{WasOpen}
 use Rattle.gh_sat.specs.Learn.{Reached, Marking, HasRound, HasMark, HaveReasons, IsLastMarked, IsPoint, IsFirstPoint}
 use Rattle.gh_sat.specs.Learn.{IsClauseOf, IsLearnt}

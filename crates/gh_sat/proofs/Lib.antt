@@ -3,7 +3,6 @@ pub mod TrailLemmas
 pub mod StatusLemmas
 pub mod WatchLemmas
 pub mod PropagationLemmas
-pub mod HintedLemmas
 pub mod MarkLemmas
 pub mod ResolveLemmas
 pub mod WholeLemmas

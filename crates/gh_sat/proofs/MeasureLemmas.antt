@@ -10,13 +10,13 @@ use Rattle.gh_base.specs.declared.atom.Lit.{Lit}
 use Rattle.gh_base.specs.declared.sizes.Sizes.{Sizes}
 use Rattle.gh_base.specs.Atoms.{count_of}
 use Rattle.gh_sat.specs.declared.trail.Step.{Step}
-use Rattle.gh_sat.specs.Trail.{SearchState, IsUnitIn, IsSound, cut, open_level}
-use Rattle.gh_sat.specs.Measure.{count_at, IsFurther, StepsLeadFurther, IsCutLevel, UnitsAreAssigned, JumpsLeadFurther}
+use Rattle.gh_sat.specs.Trail.{SearchState, IsSound, cut, open_level}
+use Rattle.gh_sat.specs.Measure.{count_at, IsFurther, StepsLeadFurther, UnitsAreAssigned, JumpsLeadFurther}
 use Rattle.gh_sat.specs.Measure.{power, weight, left, StepsLeaveLess, JumpsLeaveLess}
 use Rattle.gh_sat.specs.Learn.{IsLearnt, add_clause, one_if}
 use Rattle.gh_sat.specs.Status.{Grows}
 use Rattle.gh_sat.specs.Whole.{GivesLast}
-use Rattle.gh_base.proofs.ListLemmas.{get_some, get_take, take_get, get_within}
+use Rattle.gh_base.proofs.ListLemmas.{get_some}
 use Rattle.gh_sat.proofs.ListLemmas.{end_of_at, lt_le}
 use Rattle.gh_sat.proofs.MarkLemmas.{get_drop, one_if_is, one_if_not}
 
@@ -77,35 +77,12 @@ step_further trail x more =
     subst (IsFurther trail) (append_assoc trail (x ∷ []) more)
     (further_more trail (trail ++ x ∷ []) more (one_further trail x))
 
--- the learnt clause is unit after the cut
-unit_at : (s : SearchState) (k : ℕ) (clause : List Lit) (level : ℕ) (unit : Lit) (to : ℕ) → IsSound s
-    → IsLearnt s k clause level unit → IsCutLevel s level to → IsUnitIn (cut s to).trail clause unit
-unit_at s k clause level unit to h learnt c =
-    let r = get_some s.starts to c.1 in
-    let at = end_of_at s.starts to (length s.trail) r.0 r.1 in
-    let p = learnt.present in
-    subst (λ e. IsUnitIn (take e s.trail) clause unit) (sym at) (record {
-      there = learnt.there;
-      free = λ i x here same.
-          let old = get_take r.0 s.trail i x here in
-          let e = h.steps.apart i x learnt.place p.0 old.1 p.1 (same ∙ sym (ap (λ (l : Lit). l.atom) p.2)) in
-          let low = (h.split learnt.place p.0 to r.0 p.1 r.1).1 (omega (arith, old.0, e)) in
-          omega (arith, low, p.3, c.1);
-      others = λ j d lt. elim (learnt.others j d lt) [
-        | inl e ↦ inl e
-        | inr w ↦
-            let inside = (h.split w.0 w.1 to r.0 w.2 r.1).0 (omega (arith, w.4, c.0)) in
-            let here = take_get r.0 s.trail w.0 w.1 inside w.2 in
-            inr (w.0, w.1, get_within (take r.0 s.trail) w.0 w.1 here, here, w.3)
-      ];
-    })
-
 pub units_assigned : UnitsAreAssigned
-units_assigned s k clause level unit to new h learnt c last =
-    let r = last s.clauses clause unit refl (unit_at s k clause level unit to h learnt c) in
-    let n : length (take to s.starts) ≡ to = length-take-le to s.starts (lt_weak c.1) in (
+units_assigned s k clause level unit new h learnt last =
+    let r = last s.clauses clause unit refl learnt.unit_then in
+    let n : length (take level s.starts) ≡ level = length-take-le level s.starts (lt_weak learnt.lower) in (
       r.0,
-      r.1 ∙ ap (λ (l : ℕ). (cut s to).trail
+      r.1 ∙ ap (λ (l : ℕ). (cut s level).trail
           ++ (record { lit = unit; level = l; reason = Some (length s.clauses) }) ∷ [] ++ r.0) n,
     )
 
@@ -152,11 +129,11 @@ jump_one s level x h lower is =
     )
 
 pub jump_further : JumpsLeadFurther
-jump_further s n clause level unit to new h learnt c last =
-    let x : Step = record { lit = unit; level = to; reason = Some (length s.clauses) } in
-    let r = units_assigned s n clause level unit to new h learnt c last in
+jump_further s n clause level unit new h learnt last =
+    let x : Step = record { lit = unit; level = level; reason = Some (length s.clauses) } in
+    let r = units_assigned s n clause level unit new h learnt last in
     subst (IsFurther s.trail) (sym r.1)
-    (further_more s.trail ((cut s to).trail ++ x ∷ []) r.0 (jump_one s to x h c.1 refl))
+    (further_more s.trail ((cut s level).trail ++ x ∷ []) r.0 (jump_one s level x h learnt.lower refl))
 
 power_pos : (b k : ℕ) → 0 < power (suc b) k
 power_pos b zero = omega arith
@@ -236,19 +213,19 @@ jump_weight n level start trail x few low above is =
     omega arith
 
 pub jump_less : JumpsLeaveLess
-jump_less s n clause level unit to new h learnt c last few =
-    let x : Step = record { lit = unit; level = to; reason = Some (length s.clauses) } in
-    let u = units_assigned s n clause level unit to new h learnt c last in
-    let r = get_some s.starts to c.1 in
-    let at = end_of_at s.starts to (length s.trail) r.0 r.1 in
-    let low : to < length s.trail = let f = h.few in let l = c.1 in omega arith in
+jump_less s n clause level unit new h learnt last few =
+    let x : Step = record { lit = unit; level = level; reason = Some (length s.clauses) } in
+    let u = units_assigned s n clause level unit new h learnt last in
+    let r = get_some s.starts level learnt.lower in
+    let at = end_of_at s.starts level (length s.trail) r.0 r.1 in
+    let low : level < length s.trail = let f = h.few in let l = learnt.lower in omega arith in
     let all : length s.trail ≤ count_of s.sizes = h.steps.few in
-    let one : weight (count_of s.sizes) s.trail < weight (count_of s.sizes) ((cut s to).trail ++ x ∷ []) =
+    let one : weight (count_of s.sizes) s.trail < weight (count_of s.sizes) ((cut s level).trail ++ x ∷ []) =
     subst (λ e. weight (count_of s.sizes) s.trail < weight (count_of s.sizes) (take e s.trail ++ x ∷ [])) (sym at)
-    (jump_weight (count_of s.sizes) to r.0 s.trail x all (lt_le low all) (above_cut s to r.0 h r.1) refl) in
+    (jump_weight (count_of s.sizes) level r.0 s.trail x all (lt_le low all) (above_cut s level r.0 h r.1) refl) in
     left_less (count_of s.sizes) s.trail new
     (subst (λ xs. weight (count_of s.sizes) s.trail < weight (count_of s.sizes) xs) (sym u.1)
-    (weight_grows (count_of s.sizes) s.trail ((cut s to).trail ++ x ∷ []) u.0 one)) few
+    (weight_grows (count_of s.sizes) s.trail ((cut s level).trail ++ x ∷ []) u.0 one)) few
 
 -- less is left after a decision and what it propagates
 pub turn_decided : (s mid new : SearchState) (lit : Lit) → mid ≡ open_level s lit → new.sizes ≡ mid.sizes
@@ -266,19 +243,13 @@ turn_decided s mid new lit is same grows h =
     (step_less s.sizes s.trail x grows.0 (subst (λ (t : List Step). length t ≤ count_of s.sizes) e few)))
 
 -- and after a lesson, the jump back and what the unit propagates
-pub turn_learnt : (s two mid new : SearchState) (k : ℕ) (clause : List Lit) (level : ℕ) (unit : Lit) (to : ℕ)
-    → IsSound s → IsLearnt s k clause level unit → IsCutLevel s level to → two ≡ add_clause s clause → mid ≡ cut two to
+pub turn_learnt : (s two mid new : SearchState) (k : ℕ) (clause : List Lit) (level : ℕ) (unit : Lit)
+    → IsSound s → IsLearnt s k clause level unit → two ≡ add_clause s clause → mid ≡ cut two level
     → new.sizes ≡ mid.sizes → GivesLast mid new.trail → IsSound new → left new.sizes new.trail < left s.sizes s.trail
-turn_learnt s two mid new k clause level unit to h learnt c added jump same last h' =
-    let m : mid ≡ cut (add_clause s clause) to = jump ∙ ap (λ (t : SearchState). cut t to) added in
+turn_learnt s two mid new k clause level unit h learnt added jump same last h' =
+    let m : mid ≡ cut (add_clause s clause) level = jump ∙ ap (λ (t : SearchState). cut t level) added in
     let z : new.sizes ≡ s.sizes = same ∙ ap (λ (t : SearchState). t.sizes) m in
     let few : length new.trail ≤ count_of s.sizes =
     subst (λ (w : Sizes). length new.trail ≤ count_of w) z h'.steps.few in
     subst (λ (w : Sizes). left w new.trail < left s.sizes s.trail) (sym z)
-    (jump_less s k clause level unit to new.trail h learnt c (subst (λ (t : SearchState). GivesLast t new.trail) m last)
-    few)
-
--- the lesson's own level is one to cut to
-pub own_level : (s : SearchState) (k : ℕ) (clause : List Lit) (level : ℕ) (unit : Lit) → IsLearnt s k clause level unit
-    → IsCutLevel s level level
-own_level s k clause level unit learnt = (omega arith, learnt.lower)
+    (jump_less s k clause level unit new.trail h learnt (subst (λ (t : SearchState). GivesLast t new.trail) m last) few)

@@ -15,7 +15,8 @@ use Rattle.gh_sat.specs.Trail.{SearchState, IsTrueIn, IsFalseIn, IsFree, IsSound
 use Rattle.gh_sat.specs.Whole.{AddsClause, PropagatesTo}
 use Rattle.gh_sat.specs.Watch.{WasOpen}
 use Rattle.gh_sat.specs.Learn.{IsConflictAt, add_clause}
-use Rattle.gh_sat.specs.Theory.{IsRefutedBy, HasNoLit, lits_of, IsAsserted, HasNoConflict, WereConsistent, IsBeside, PropagatesBeside}
+use Rattle.gh_sat.specs.Theory.{IsRefutedBy, HasNoLit, lits_of, IsAsserted, HasNoConflict, WereConsistent, IsBeside}
+use Rattle.gh_sat.specs.Theory.{PropagatesBeside}
 use Rattle.gh_base.proofs.ListLemmas.{get_within, get_take, get_push, get_last}
 use Rattle.gh_sat.proofs.ListLemmas.{le_same}
 use Rattle.gh_sat.proofs.WholeLemmas.{take_take, take_whole, present_of, cut_none}
@@ -165,7 +166,8 @@ none_before s n x h at k d lt e =
     let lt' = o.0 in omega arith
 
 -- telling a trail step by step
-pub told_init : (a : List Lit) (trail steps : List Step) (place : ℕ) → IsAsserted a trail → steps ≡ trail → place ≡ length a
+pub told_init : (a : List Lit) (trail steps : List Step) (place : ℕ) → IsAsserted a trail → steps ≡ trail
+    → place ≡ length a
     → (place ≤ length steps) × (a ≡ lits_of (take place steps))
 told_init a trail steps place t e p =
     let n : place ≡ t.0 = p ∙ told_long a trail t in
@@ -363,5 +365,6 @@ pub beside_nothing : (V : Sizes → List Lit → Type 0) (a : List Lit) (z sizes
     (s : SearchState) → s ≡ (record { sizes = sizes; clauses = cs; trail = []; starts = [] }) → a ≡ [] → z ≡ sizes
     → IsAsserted a s.trail × (z ≡ s.sizes) × WereConsistent (V s.sizes) s.trail s.starts
 beside_nothing V a z sizes cs s is none same =
-    subst (λ (t : SearchState). IsAsserted a t.trail × (z ≡ t.sizes) × WereConsistent (V t.sizes) t.trail t.starts) (sym is)
+    subst (λ (t : SearchState). IsAsserted a t.trail × (z ≡ t.sizes) × WereConsistent (V t.sizes) t.trail t.starts)
+    (sym is)
     ((0, omega arith, none), same, none_open V)

@@ -1,24 +1,20 @@
 -- The tables of a trail, as steps come and go.
-use Rattle.std.proofs.Common.{◌≡◌, ◌≢◌, ℕ, suc, ◌+◌, ◌-◌, ◌<◌, ◌≤◌, List, [], ◌∷◌, ◌++◌, length, take, Option, Some}
-use Rattle.std.proofs.Common.{None, Bool, true, false, if◌then◌else◌, inl, inr, refl, sym, ap, ◌∙◌, subst, arith, All}
+use Rattle.std.proofs.Common.{◌≡◌, ◌≢◌, ℕ, suc, ◌+◌, ◌<◌, ◌≤◌, List, [], ◌∷◌, ◌++◌, length, take, Option, Some}
+use Rattle.std.proofs.Common.{None, Bool, true, false, inl, inr, refl, sym, ap, ◌∙◌, subst, arith, All}
 use Rattle.std.proofs.Common.{length-set}
-use Rattle.std.specs.Prelude.{slice_get, slice_set, option_map, not, nat_lt}
-use Rattle.std.proofs.Common.{get_or}
-use mathlib.Core.Bool.{beq}
-use Rattle.gh_sat.specs.declared.rows.Numbered.{Numbered}
-use Rattle.gh_sat.specs.Rows.{numbered}
-use Rattle.std.proofs.lemmas.Bool.{cases_eq, cases_lt, lt-ltb, le-ltb}
+use Rattle.std.specs.Prelude.{slice_get, slice_set, option_map, not}
+use Rattle.std.proofs.lemmas.Bool.{cases_eq}
 use Rattle.std.proofs.lemmas.List.{length_push}
 use Rattle.std.proofs.lemmas.Option.{get_or_from_slice_get, slice_get-get_or}
 use Rattle.gh_base.specs.declared.atom.Atom.{Atom}
 use Rattle.gh_base.specs.declared.atom.Lit.{Lit}
 use Rattle.gh_base.specs.declared.sizes.Sizes.{Sizes}
-use Rattle.gh_base.specs.Atoms.{opposite, IsInRange, number_of, btwn_start, def_start, count_of}
+use Rattle.gh_base.specs.Atoms.{opposite, IsInRange, number_of, count_of}
 use Rattle.gh_base.specs.Meaning.{under}
 use Rattle.gh_base.specs.Assignments.{Partial, value_of, value_at, with_value}
 use Rattle.gh_base.proofs.NumberLemmas.{number_below, apart}
 use Rattle.gh_sat.specs.declared.trail.Step.{Step}
-use Rattle.gh_sat.specs.Trail.{Stands, IsFree, IsTruth, AreSteps, AreValues, ArePlaces, IsPassed, turned}
+use Rattle.gh_sat.specs.Trail.{Stands, IsFree, IsTruth, AreSteps, AreValues, ArePlaces, IsPassed}
 use Rattle.gh_sat.specs.Trail.{IsAssignmentOf, unassigned}
 use Rattle.gh_base.proofs.ListLemmas.{get_within, get_front, get_push, get_last, take_get, get_set_same, get_set_other}
 use Rattle.gh_sat.proofs.ListLemmas.{fewer_left, more_left, some_left}
@@ -106,35 +102,6 @@ value_by p trail l (Some b) (Some false) v h e f =
 pub value_is : (p : Partial) (trail : List Step) (l : Lit) (r : Option Bool) → AreValues p trail
     → IsInRange p.sizes l.atom → r ≡ value_of p l → IsTruth trail l r
 value_is p trail l r v h e = value_by p trail l (value_at p l.atom) r v h refl (sym e)
-
--- the same, by the number of the atom
-pub number_fits : (p : Partial) (trail : List Step) (l : Lit) → AreValues p trail → IsInRange p.sizes l.atom
-    → number_of p.sizes l.atom < length p.values
-number_fits p trail l v h = omega (arith, number_below p.sizes l.atom h, v.long)
-
-beq_under : (a b : Bool) → beq b a ≡ under a b
-beq_under true true = refl
-beq_under true false = refl
-beq_under false true = refl
-beq_under false false = refl
-
-truth_by : (p : Partial) (trail : List Step) (l : Lit) (o : Option Bool) → AreValues p trail → IsInRange p.sizes l.atom
-    → value_at p l.atom ≡ o → IsTruth trail l (option_map (λ t. beq t l.positive) o)
-truth_by p trail l None v h e = value_by p trail l None None v h e refl
-truth_by p trail l (Some b) v h e =
-    subst (λ t. IsTruth trail l (Some t)) (sym (beq_under l.positive b))
-    (value_by p trail l (Some b) (Some (under l.positive b)) v h e refl)
-
-pub truth_is : (p : Partial) (trail : List Step) (l : Lit) (n : Numbered) (d o : Option Bool) → AreValues p trail
-    → IsInRange p.sizes l.atom → n ≡ numbered p.sizes l
-    → get_or p.values n.number d ≡ o → IsTruth trail l (option_map (λ t. beq t n.positive) o)
-truth_is p trail l n d o v h e at =
-    let read = table_read p l.atom v.long h in
-    let here : get_or p.values (number_of p.sizes l.atom) d ≡ value_at p l.atom =
-    get_or_from_slice_get p.values (number_of p.sizes l.atom) (value_at p l.atom) d read in
-    let same : value_at p l.atom ≡ o = sym here ∙ ap (λ (m : Numbered). get_or p.values m.number d) (sym e) ∙ at in
-    subst (λ (m : Numbered). IsTruth trail l (option_map (λ t. beq t m.positive) o)) (sym e)
-    (truth_by p trail l o v h same)
 
 pub assignment_is : (p : Partial) (trail : List Step) → AreValues p trail
     → IsAssignmentOf p (record { sizes = p.sizes; steps = trail })
@@ -258,83 +225,6 @@ values_less p trail y v =
       small = v.small;
     }
 
-turned_low : (s : Sizes) (n : ℕ) → n < btwn_start s → turned s n ≡ n
-turned_low s n h =
-    ap (λ (b : Bool). if b then n else (if nat_lt n (def_start s) then btwn_start s + (def_start s - 1 - n) else n))
-    (lt-ltb n (btwn_start s) h)
-
-turned_high : (s : Sizes) (n : ℕ) → btwn_start s ≤ n
-    → turned s n ≡ if nat_lt n (def_start s) then btwn_start s + (def_start s - 1 - n) else n
-turned_high s n h =
-    ap (λ (b : Bool). if b then n else (if nat_lt n (def_start s) then btwn_start s + (def_start s - 1 - n) else n))
-    (le-ltb n (btwn_start s) h)
-
-turned_middle : (s : Sizes) (n : ℕ) → btwn_start s ≤ n → n < def_start s
-    → turned s n ≡ btwn_start s + (def_start s - 1 - n)
-turned_middle s n h k =
-    turned_high s n h ∙ ap (λ (b : Bool). if b then btwn_start s + (def_start s - 1 - n) else n)
-    (lt-ltb n (def_start s) k)
-
-turned_last : (s : Sizes) (n : ℕ) → btwn_start s ≤ n → def_start s ≤ n → turned s n ≡ n
-turned_last s n h k =
-    turned_high s n h ∙ ap (λ (b : Bool). if b then btwn_start s + (def_start s - 1 - n) else n)
-    (le-ltb n (def_start s) k)
-
-turned_back : (first end n : ℕ) → first ≤ n → n < end → first + (end - 1 - (first + (end - 1 - n))) ≡ n
-turned_back first end n h k = omega arith
-
-pub turned_below : (s : Sizes) (n : ℕ) → n < count_of s → turned s n < count_of s
-turned_below s n h = elim (cases_lt n (btwn_start s)) as (λ _. turned s n < count_of s) [
-  | inl lt ↦ omega (arith, turned_low s n lt)
-  | inr ge ↦ elim (cases_lt n (def_start s)) as (λ _. turned s n < count_of s) [
-    | inl low ↦ omega (arith, turned_middle s n ge low)
-    | inr high ↦ omega (arith, turned_last s n ge high)
-  ]
-]
-
--- the number at the place of a number is that number
-pub turned_twice : (s : Sizes) (n : ℕ) → n < count_of s → turned s (turned s n) ≡ n
-turned_twice s n h = elim (cases_lt n (btwn_start s)) as (λ _. turned s (turned s n) ≡ n) [
-  | inl lt ↦ ap (turned s) (turned_low s n lt) ∙ turned_low s n lt
-  | inr ge ↦ elim (cases_lt n (def_start s)) as (λ _. turned s (turned s n) ≡ n) [
-    | inl low ↦
-        let place : ℕ = btwn_start s + (def_start s - 1 - n) in
-        let up : btwn_start s ≤ place = omega arith in
-        let down : place < def_start s = omega arith in
-        ap (turned s) (turned_middle s n ge low) ∙ turned_middle s place up down
-        ∙ turned_back (btwn_start s) (def_start s) n ge low
-    | inr high ↦ ap (turned s) (turned_last s n ge high) ∙ turned_last s n ge high
-  ]
-]
-
-still_set : (values : List (Option Bool)) (c a : ℕ) (b : Bool) → slice_get values c ≢ Some None
-    → slice_get (slice_set values a (Some b)) c ≢ Some None
-still_set values c a b h e = elim (cases_eq c a) [
-  | inl same ↦ elim (cases_lt a (length values)) [
-    | inl lt ↦
-        let t : slice_get (slice_set values a (Some b)) c ≡ Some (Some b) =
-        subst (λ d. slice_get (slice_set values a (Some b)) d ≡ Some (Some b)) (sym same)
-        (get_set_same values a (Some b) lt) in cc
-    | inr ge ↦
-        let w = get_within (slice_set values a (Some b)) c None e in
-        absurd (omega (arith, length-set values a (Some b)))
-  ]
-  | inr n ↦ h (sym (get_set_other values a c (Some b) n) ∙ e)
-]
-
-pub passed_set : (p : Partial) (cursor : ℕ) (atom : Atom) (b : Bool) → IsPassed p cursor
-    → IsPassed (with_value p atom (Some b)) cursor
-passed_set p cursor atom b h i lt = still_set p.values (turned p.sizes i) (number_of p.sizes atom) b (h i lt)
-
-pub passed_unset : (p : Partial) (cursor less : ℕ) (atom : Atom) → less ≤ cursor → cursor ≤ count_of p.sizes
-    → less ≤ turned p.sizes (number_of p.sizes atom) → IsPassed p cursor → IsPassed (with_value p atom None) less
-passed_unset p cursor less atom h up k passed i lt e =
-    let n : turned p.sizes i ≢ number_of p.sizes atom = λ same.
-    let back : turned p.sizes (number_of p.sizes atom) ≡ i =
-    ap (turned p.sizes) (sym same) ∙ turned_twice p.sizes i (omega arith) in
-    absurd (omega (arith, back)) in
-    passed i (omega arith) (sym (get_set_other p.values (number_of p.sizes atom) (turned p.sizes i) None n) ∙ e)
-
 all_none : (values : List (Option Bool)) (a : ℕ) (b : Bool) → All (λ v. v ≡ None) values
     → slice_get values a ≡ Some (Some b) → ⊥
 all_none values a b none e =
@@ -360,12 +250,8 @@ values_none p none long small = record {
   small = small;
 }
 
--- all atoms before the end have a truth
-pub none_free : (p : Partial) (trail : List Step) (place : ℕ) → AreValues p trail → IsPassed p place
-    → count_of p.sizes ≤ place → (a : Atom) → IsInRange p.sizes a → IsFree trail a → ⊥
-none_free p trail place v passed ge a r free =
-    let n : ℕ = number_of p.sizes a in
-    let below : n < count_of p.sizes = number_below p.sizes a r in
-    let low : turned p.sizes n < place = omega (arith, turned_below p.sizes n below) in
-    passed (turned p.sizes n) low (ap (slice_get p.values) (turned_twice p.sizes n below)
-    ∙ free_is_none p trail a v free r)
+-- where no number's atom is free, no atom is
+pub none_free : (p : Partial) (trail : List Step) → AreValues p trail → IsPassed p (count_of p.sizes)
+    → (a : Atom) → IsInRange p.sizes a → IsFree trail a → ⊥
+none_free p trail v passed a r free =
+    passed (number_of p.sizes a) (number_below p.sizes a r) (free_is_none p trail a v free r)

@@ -11,13 +11,9 @@ use Rattle.gh_base.specs.declared.sizes.Sizes.{Sizes}
 use Rattle.gh_base.specs.Atoms.{opposite}
 use Rattle.gh_sat.specs.declared.trail.Step.{Step}
 use Rattle.gh_sat.specs.Trail.{Line, IsTrueIn, IsUnitIn, AreSteps, push}
-use Rattle.gh_sat.specs.declared.rows.Numbered.{Numbered}
-use Rattle.gh_sat.specs.declared.status.Hint.{Hint}
-use Rattle.gh_sat.specs.Rows.{numbered}
-use Rattle.gh_sat.specs.Status.{IsFalseOrUnit, IsPair, IsGuarded, IsForced, AreForced, Grows}
-use Rattle.gh_sat.specs.Watch.{AreGuarded, AreVisited, MoveHints, AreListed, ListsMore, clauses_of}
-use Rattle.gh_base.proofs.ListLemmas.{get_within, get_front, get_last, get_take, take_get, get_some, get_set_same}
-use Rattle.gh_base.proofs.ListLemmas.{get_set_other}
+use Rattle.gh_sat.specs.Status.{IsFalseOrUnit, HasPair, IsGuarded, IsForced, AreForced, Grows}
+use Rattle.gh_sat.specs.Watch.{AreGuarded, AreVisited, AreListed, ListsMore, clauses_of}
+use Rattle.gh_base.proofs.ListLemmas.{get_within, get_front, get_last, get_take, take_get}
 use Rattle.gh_sat.proofs.TrailLemmas.{opposite_twice}
 use Rattle.gh_sat.proofs.StatusLemmas.{true_good, not_free_opposite}
 
@@ -122,43 +118,37 @@ false_next trail head x m here s =
     ]
 
 -- a pair stays one where by what is known neither literal is false
-pair_known : (s : Sizes) (old new : List Step) (c : List Lit) (h : Hint) (p : IsPair s old c h)
-    → (IsTrueIn new (opposite p.one) → ⊥) → (IsTrueIn new (opposite p.other) → ⊥) → IsPair s new c h
-pair_known s old new c h p one_open other_open = record {
+pair_known : (old new : List Step) (c : List Lit) (p : HasPair old c)
+    → (IsTrueIn new (opposite p.one) → ⊥) → (IsTrueIn new (opposite p.other) → ⊥) → HasPair new c
+pair_known old new c p one_open other_open = record {
   one = p.one;
   other = p.other;
   one_in = p.one_in;
   other_in = p.other_in;
-  first = p.first;
-  second = p.second;
   differ = p.differ;
   one_open = one_open;
   other_open = other_open;
 }
 
-pub pair_less : (s : Sizes) (known less : List Step) (c : List Lit) (h : Hint)
-    → ((l : Lit) → IsTrueIn less l → IsTrueIn known l) → IsPair s known c h → IsPair s less c h
-pair_less s known less c h f p =
-    pair_known s known less c h p (λ t. p.one_open (f (opposite p.one) t)) (λ t. p.other_open (f (opposite p.other) t))
+pub pair_front : (trail : List Step) (n : ℕ) (c : List Lit) → HasPair trail c → HasPair (take n trail) c
+pair_front trail n c p =
+    pair_known trail (take n trail) c p (λ t. p.one_open (true_longer trail n (opposite p.one) t))
+    (λ t. p.other_open (true_longer trail n (opposite p.other) t))
 
-pub pair_front : (s : Sizes) (trail : List Step) (n : ℕ) (c : List Lit) (h : Hint) → IsPair s trail c h
-    → IsPair s (take n trail) c h
-pair_front s trail n c h p = pair_less s trail (take n trail) c h (true_longer trail n) p
+pub guarded_front : (trail : List Step) (n : ℕ) (c : List Lit) → IsGuarded trail trail c
+    → IsGuarded trail (take n trail) c
+guarded_front trail n c (inl t) = inl t
+guarded_front trail n c (inr p) = inr (pair_front trail n c p)
 
-pub guarded_front : (s : Sizes) (trail : List Step) (n : ℕ) (c : List Lit) (h : Hint) → IsGuarded s trail trail c h
-    → IsGuarded s trail (take n trail) c h
-guarded_front s trail n c h (inl t) = inl t
-guarded_front s trail n c h (inr p) = inr (pair_front s trail n c h p)
-
-pub guarded_grown : (s : Sizes) (old added known : List Step) (c : List Lit) (h : Hint) → IsGuarded s old known c h
-    → IsGuarded s (old ++ added) known c h
-guarded_grown s old added known c h (inl t) = inl (t.0, t.1, true_grown old added t.0 t.2)
-guarded_grown s old added known c h (inr p) = inr p
+pub guarded_grown : (old added known : List Step) (c : List Lit) → IsGuarded old known c
+    → IsGuarded (old ++ added) known c
+guarded_grown old added known c (inl t) = inl (t.0, t.1, true_grown old added t.0 t.2)
+guarded_grown old added known c (inr p) = inr p
 
 -- two literals that aren't false make a clause neither false nor unit
-pub pair_good : (s : Sizes) (trail : List Step) (c : List Lit) (h : Hint) → IsPair s trail c h → IsFalseOrUnit trail c → ⊥
-pair_good s trail c h p (inl f) = p.one_open (All-contains (λ m. IsTrueIn trail (opposite m)) c p.one f p.one_in)
-pair_good s trail c h p (inr (u, i)) =
+pub pair_good : (trail : List Step) (c : List Lit) → HasPair trail c → IsFalseOrUnit trail c → ⊥
+pair_good trail c p (inl f) = p.one_open (All-contains (λ m. IsTrueIn trail (opposite m)) c p.one f p.one_in)
+pair_good trail c p (inr (u, i)) =
     let one : p.one ≡ u = elim (All-contains (λ m. (m ≡ u) ⊎ IsTrueIn trail (opposite m)) c p.one i.others p.one_in) [
       | inl e ↦ e
       | inr t ↦ absurd (p.one_open t)
@@ -170,94 +160,34 @@ pair_good s trail c h p (inr (u, i)) =
     ] in
     p.differ (one ∙ sym other)
 
-pub guarded_good : (t : Line) (c : List Lit) (h : Hint) → AreSteps t → IsGuarded t.sizes t.steps t.steps c h
-    → IsFalseOrUnit t.steps c → ⊥
-guarded_good t c h valid (inl w) bad = true_good t c w.0 valid w.1 w.2 bad
-guarded_good t c h valid (inr p) bad = pair_good t.sizes t.steps c h p bad
-
--- a step whose opposite is none of the two leaves both
-pub pair_next : (s : Sizes) (trail : List Step) (head : ℕ) (x : Step) (c : List Lit) (h : Hint) (gone : Numbered)
-    → slice_get trail head ≡ Some x → numbered s (opposite x.lit) ≡ gone
-    → (h.first ≡ gone → ⊥) → (h.second ≡ gone → ⊥) → IsPair s (take head trail) c h
-    → IsPair s (take (head + 1) trail) c h
-pair_next s trail head x c h gone here is n m p =
-    pair_known s (take head trail) (take (head + 1) trail) c h p
-    (λ t. elim (false_next trail head x p.one here t) [
-      | inl old ↦ p.one_open old
-      | inr e ↦ n (sym p.first ∙ ap (numbered s) e ∙ is)
-    ])
-    (λ t. elim (false_next trail head x p.other here t) [
-      | inl old ↦ p.other_open old
-      | inr e ↦ m (sym p.second ∙ ap (numbered s) e ∙ is)
-    ])
-
--- hints that move, as the trail grows
-pub moves_same : (s : Sizes) (clauses : List (List Lit)) (trail : List Step) (hints : List Hint)
-    → MoveHints s clauses trail hints hints
-moves_same s clauses trail hints = record { long = refl; each = λ k c h at has. inl has }
-
-pub moves_set : (s : Sizes) (clauses : List (List Lit)) (trail : List Step) (hints : List Hint) (k : ℕ) (c : List Lit)
-    (old h : Hint) → k < length hints → slice_get clauses k ≡ Some c → slice_get hints k ≡ Some old
-    → (h ≡ old) ⊎ IsPair s trail c h → MoveHints s clauses trail hints (slice_set hints k h)
-moves_set s clauses trail hints k c old h lt at was m = record {
-  long = length-set hints k h;
-  each = λ i d x here has. elim (cases_eq i k) [
-    | inl e ↦
-        let set : slice_get (slice_set hints k h) k ≡ Some x =
-        subst (λ j. slice_get (slice_set hints k h) j ≡ Some x) e has in
-        let is : h ≡ x = let z = get_set_same hints k h lt in cc in
-        let there : slice_get clauses k ≡ Some d = subst (λ j. slice_get clauses j ≡ Some d) e here in
-        let one : c ≡ d = cc in
-        elim m [
-          | inl kept ↦ inl (subst (λ j. slice_get hints j ≡ Some x) (sym e) (was ∙ ap Some (sym kept ∙ is)))
-          | inr p ↦
-              inr (subst (λ (y : Hint). IsPair s trail d y) is (subst (λ (y : List Lit). IsPair s trail y h) one p))
-        ]
-    | inr n ↦ inl (sym (get_set_other hints k i h n) ∙ has)
-  ];
-}
-
-pub moves_on : (s : Sizes) (clauses : List (List Lit)) (level : ℕ) (a b : List Step) (x y z : List Hint)
-    → Grows clauses level a b → MoveHints s clauses a x y → MoveHints s clauses b y z → MoveHints s clauses a x z
-moves_on s clauses level a b x y z g m n = record {
-  long = n.long ∙ m.long;
-  each = λ k c h at has. elim (n.each k c h at has) [
-    | inl same ↦ m.each k c h at same
-    | inr p ↦
-        inr (pair_less s b a c h (λ l t. subst (λ (w : List Step). IsTrueIn w l) (sym g.1) (true_grown a g.0 l t)) p)
-  ];
-}
+pub guarded_good : (t : Line) (c : List Lit) → AreSteps t → IsGuarded t.steps t.steps c → IsFalseOrUnit t.steps c → ⊥
+guarded_good t c valid (inl w) bad = true_good t c w.0 valid w.1 w.2 bad
+guarded_good t c valid (inr p) bad = pair_good t.steps c p bad
 
 -- the front up to a place, of a trail that grew
 front_grown : (clauses : List (List Lit)) (level : ℕ) (old new : List Step) (n : ℕ) → n ≤ length old
     → Grows clauses level old new → take n new ≡ take n old
 front_grown clauses level old new n h g = ap (take n) g.1 ∙ take-append-le n old g.0 h
 
-pub guarded_along : (s : Sizes) (clauses : List (List Lit)) (level : ℕ) (old new : List Step) (n : ℕ) (c : List Lit)
-    (h : Hint) → n ≤ length old → Grows clauses level old new → IsGuarded s old (take n old) c h
-    → IsGuarded s new (take n new) c h
-guarded_along s clauses level old new n c h le g w =
-    subst (λ (k : List Step). IsGuarded s new k c h) (sym (front_grown clauses level old new n le g))
-    (subst (λ (t : List Step). IsGuarded s t (take n old) c h) (sym g.1) (guarded_grown s old g.0 (take n old) c h w))
+pub guarded_along : (clauses : List (List Lit)) (level : ℕ) (old new : List Step) (n : ℕ) (c : List Lit)
+    → n ≤ length old → Grows clauses level old new → IsGuarded old (take n old) c → IsGuarded new (take n new) c
+guarded_along clauses level old new n c le g w =
+    subst (λ (k : List Step). IsGuarded new k c) (sym (front_grown clauses level old new n le g))
+    (subst (λ (t : List Step). IsGuarded t (take n old) c) (sym g.1) (guarded_grown old g.0 (take n old) c w))
 
--- what is guarded stays so while the trail grows and hints move
-pub guarded_on : (s : Sizes) (clauses : List (List Lit)) (level : ℕ) (old new : List Step) (hints hints' : List Hint)
-    (head looked : ℕ) → head ≤ length old → Grows clauses level old new → MoveHints s clauses old hints hints'
-    → AreGuarded s clauses hints old head looked → AreGuarded s clauses hints' new head looked
-guarded_on s clauses level old new hints hints' head looked le g m w k c h lt at has =
-    guarded_along s clauses level old new head c h le g
-    (elim (m.each k c h at has) [ inl same ↦ w k c h lt at same | inr p ↦ inr (pair_front s old head c h p) ])
+-- what is guarded stays so while the trail grows
+pub guarded_on : (clauses : List (List Lit)) (level : ℕ) (old new : List Step) (head looked : ℕ) → head ≤ length old
+    → Grows clauses level old new → AreGuarded clauses old head looked → AreGuarded clauses new head looked
+guarded_on clauses level old new head looked le g w k c lt at =
+    guarded_along clauses level old new head c le g (w k c lt at)
 
 -- a clause more was looked at
-pub guarded_looked : (s : Sizes) (clauses : List (List Lit)) (hints : List Hint) (trail : List Step) (head looked : ℕ)
-    → ((c : List Lit) (h : Hint) → slice_get clauses looked ≡ Some c → slice_get hints looked ≡ Some h
-    → IsGuarded s trail trail c h)
-    → AreGuarded s clauses hints trail head looked → AreGuarded s clauses hints trail head (looked + 1)
-guarded_looked s clauses hints trail head looked one w k c h lt at has = elim (cases_eq k looked) [
-  | inl e ↦
-      guarded_front s trail head c h
-      (one c h (subst (λ i. slice_get clauses i ≡ Some c) e at) (subst (λ i. slice_get hints i ≡ Some h) e has))
-  | inr n ↦ w k c h (omega (arith, n, lt)) at has
+pub guarded_looked : (clauses : List (List Lit)) (trail : List Step) (head looked : ℕ)
+    → ((c : List Lit) → slice_get clauses looked ≡ Some c → IsGuarded trail trail c)
+    → AreGuarded clauses trail head looked → AreGuarded clauses trail head (looked + 1)
+guarded_looked clauses trail head looked one w k c lt at = elim (cases_eq k looked) [
+  | inl e ↦ guarded_front trail head c (one c (subst (λ i. slice_get clauses i ≡ Some c) e at))
+  | inr n ↦ w k c (omega (arith, n, lt)) at
 ]
 
 in_cons : (n k : ℕ) (rest : List ℕ) → Contains (n ∷ rest) k → (n ≡ k) ⊎ Contains rest k
@@ -265,17 +195,17 @@ in_cons n k rest (zero, h, e) = inl e
 in_cons n k rest (suc i, h, e) = inr (i, omega arith, e)
 
 -- the clauses that have the opposite of the next literal are the ones to visit
-pub visited_begin : (s : Sizes) (clauses : List (List Lit)) (lists : List (List ℕ)) (hints : List Hint)
-    (trail : List Step) (head looked : ℕ) (x : Step) → AreListed s clauses lists → slice_get trail head ≡ Some x
-    → AreGuarded s clauses hints trail head looked
-    → AreVisited s clauses hints trail head looked (clauses_of s lists (opposite x.lit))
-visited_begin s clauses lists hints trail head looked x listed here w k c h lt at has out =
+pub visited_begin : (s : Sizes) (clauses : List (List Lit)) (lists : List (List ℕ)) (trail : List Step)
+    (head looked : ℕ) (x : Step) → AreListed s clauses lists → slice_get trail head ≡ Some x
+    → AreGuarded clauses trail head looked
+    → AreVisited clauses trail head looked (clauses_of s lists (opposite x.lit))
+visited_begin s clauses lists trail head looked x listed here w k c lt at out =
     let not : (l : Lit) → Contains c l → (opposite x.lit ≡ l → ⊥) = λ l there e.
     out (subst (λ m. Contains (clauses_of s lists m) k) (sym e) (listed k c l at there)) in
-    elim (w k c h lt at has) [
+    elim (w k c lt at) [
       | inl t ↦ inl t
       | inr p ↦
-          inr (pair_known s (take head trail) (take (head + 1) trail) c h p
+          inr (pair_known (take head trail) (take (head + 1) trail) c p
           (λ t. elim (false_next trail head x p.one here t) [
             | inl old ↦ p.one_open old
             | inr e ↦ not p.one p.one_in (sym e)
@@ -287,43 +217,31 @@ visited_begin s clauses lists hints trail head looked x listed here w k c h lt a
     ]
 
 -- a clause was visited
-pub visited_next : (s : Sizes) (clauses : List (List Lit)) (level : ℕ) (old new : List Step) (hints hints' : List Hint)
-    (head looked n : ℕ) (rest : List ℕ) (x : Step) → slice_get old head ≡ Some x
-    → Grows clauses level old new → MoveHints s clauses old hints hints'
-    → ((c : List Lit) (h : Hint) → n < looked → slice_get clauses n ≡ Some c → slice_get hints' n ≡ Some h
-    → IsGuarded s new (take (head + 1) new) c h)
-    → AreVisited s clauses hints old head looked (n ∷ rest) → AreVisited s clauses hints' new head looked rest
-visited_next s clauses level old new hints hints' head looked n rest x here g m one w k c h lt at has out =
+pub visited_next : (clauses : List (List Lit)) (level : ℕ) (old new : List Step) (head looked n : ℕ) (rest : List ℕ)
+    → head < length old → Grows clauses level old new
+    → ((c : List Lit) → slice_get clauses n ≡ Some c → IsGuarded new new c)
+    → AreVisited clauses old head looked (n ∷ rest) → AreVisited clauses new head looked rest
+visited_next clauses level old new head looked n rest here g one w k c lt at out =
     elim (cases_eq k n) [
-      | inl e ↦
-          one c h (subst (λ i. i < looked) e lt) (subst (λ i. slice_get clauses i ≡ Some c) e at)
-          (subst (λ i. slice_get hints' i ≡ Some h) e has)
+      | inl e ↦ guarded_front new (head + 1) c (one c (subst (λ i. slice_get clauses i ≡ Some c) e at))
       | inr f ↦
-          let lt' = get_within old head x here in
           let left : Contains (n ∷ rest) k → ⊥ = λ z. elim (in_cons n k rest z) [ inl e ↦ f (sym e) | inr r ↦ out r ] in
-          guarded_along s clauses level old new (head + 1) c h (omega arith) g
-          (elim (m.each k c h at has) [
-            | inl same ↦ w k c h lt at same left
-            | inr p ↦
-                inr (pair_front s old (head + 1) c h p)
-          ])
+          guarded_along clauses level old new (head + 1) c (omega arith) g (w k c lt at left)
     ]
 
 -- none is left
-pub visited_end : (s : Sizes) (clauses : List (List Lit)) (hints : List Hint) (trail : List Step) (head looked : ℕ)
-    → AreVisited s clauses hints trail head looked [] → AreGuarded s clauses hints trail (head + 1) looked
-visited_end s clauses hints trail head looked w k c h lt at has =
-    w k c h lt at has (λ z. absurd (let i = z.1 in omega arith))
+pub visited_end : (clauses : List (List Lit)) (trail : List Step) (head looked : ℕ)
+    → AreVisited clauses trail head looked [] → AreGuarded clauses trail (head + 1) looked
+visited_end clauses trail head looked w k c lt at = w k c lt at (λ z. absurd (let i = z.1 in omega arith))
 
 -- nothing waits
-pub guarded_all : (t : Line) (clauses : List (List Lit)) (hints : List Hint) (head looked k : ℕ) (c : List Lit)
-    → AreSteps t → length t.steps ≤ head → length clauses ≤ looked → length hints ≡ length clauses
-    → AreGuarded t.sizes clauses hints t.steps head looked → slice_get clauses k ≡ Some c → IsFalseOrUnit t.steps c → ⊥
-guarded_all t clauses hints head looked k c valid h l long w at bad =
+pub guarded_all : (t : Line) (clauses : List (List Lit)) (head looked k : ℕ) (c : List Lit)
+    → AreSteps t → length t.steps ≤ head → length clauses ≤ looked
+    → AreGuarded clauses t.steps head looked → slice_get clauses k ≡ Some c → IsFalseOrUnit t.steps c → ⊥
+guarded_all t clauses head looked k c valid h l w at bad =
     let lt = get_within clauses k c at in
-    let hint = get_some hints k (omega (arith, long, lt)) in
-    guarded_good t c hint.0 valid (subst (λ (known : List Step). IsGuarded t.sizes t.steps known c hint.0)
-    (take_all head t.steps h) (w k c hint.0 (omega (arith, lt, l)) at hint.1)) bad
+    guarded_good t c valid (subst (λ (known : List Step). IsGuarded t.steps known c)
+    (take_all head t.steps h) (w k c (omega (arith, lt, l)) at)) bad
 
 pub append_nil : {X : Type 0} (xs : List X) → xs ++ [] ≡ xs
 append_nil [] = refl

@@ -10,20 +10,16 @@ use Rattle.gh_base.specs.declared.atom.Lit.{Lit}
 use Rattle.gh_base.specs.declared.sizes.Sizes.{Sizes}
 use Rattle.gh_base.specs.Atoms.{opposite, AreInRange}
 use Rattle.gh_sat.specs.declared.trail.Step.{Step}
-use Rattle.gh_sat.specs.Trail.{SearchState, Stands, IsTrueIn, IsFalseIn, IsLevelStart, IsOpenedOrForced, AreSteps, IsSound, cut}
-use Rattle.gh_sat.specs.Trail.{end_of, open_level, most_clauses}
-use Rattle.gh_sat.specs.declared.status.Hint.{Hint}
+use Rattle.gh_sat.specs.Trail.{SearchState, Stands, IsTrueIn, IsFalseIn, IsLevelStart, IsOpenedOrForced, AreSteps}
+use Rattle.gh_sat.specs.Trail.{IsSound, cut, end_of, open_level, most_clauses}
 use Rattle.gh_sat.specs.Status.{IsFalseOrUnit, IsGuarded, IsSettled, IsForced, AreForced, Grows}
-use Rattle.gh_sat.specs.Watch.{AreGuarded, MoveHints, ListsMore, WasOpen, clauses_of, code_of}
+use Rattle.gh_sat.specs.Watch.{AreGuarded, ListsMore, WasOpen, clauses_of, code_of}
 use Rattle.gh_sat.specs.Learn.{IsTop, IsConflictAt, add_clause}
 use Rattle.gh_sat.specs.Whole.{IsUnderWay}
-use Rattle.gh_sat.specs.declared.rows.Numbered.{Numbered}
-use Rattle.gh_sat.specs.Rows.{row_of, rows_of}
-use Rattle.std.proofs.lemmas.List.{map-append}
 use Rattle.gh_base.proofs.ListLemmas.{get_within, get_front, get_push, get_last, get_take, take_get, get_some}
 use Rattle.gh_sat.proofs.ListLemmas.{end_of_at, end_of_past, le_le}
 use Rattle.gh_sat.proofs.TrailLemmas.{stands_push, stands_take}
-use Rattle.gh_sat.proofs.WatchLemmas.{get_front_back, guarded_grown, pair_less, true_longer, append_nil, any_or_all}
+use Rattle.gh_sat.proofs.WatchLemmas.{get_front_back, guarded_grown, append_nil, any_or_all}
 
 long_front : {X : Type 0} (xs ys : List X) → length xs ≤ length (xs ++ ys)
 long_front xs ys = omega (arith, length-append xs ys)
@@ -117,7 +113,8 @@ caused_along clauses old new starts starts' i lit level (Some k) f g h = record 
 
 -- what is forced has its reason
 caused_forced : (clauses : List (List Lit)) (trail : List Step) (starts : List ℕ) (x : Step)
-    → IsForced clauses (length starts) trail x → IsOpenedOrForced clauses trail starts (length trail) x.lit x.level x.reason
+    → IsForced clauses (length starts) trail x
+    → IsOpenedOrForced clauses trail starts (length trail) x.lit x.level x.reason
 caused_forced clauses trail starts x f =
     subst (λ r. IsOpenedOrForced clauses trail starts (length trail) x.lit x.level r) (sym f.reason)
     (record { clause = f.clause; at = f.at; there = f.unit.there; others = f.unit.others })
@@ -253,7 +250,8 @@ sound_cut s level start h here =
 
 caused_add : (clauses : List (List Lit)) (c : List Lit) (trail : List Step) (starts : List ℕ) (i : ℕ) (lit : Lit)
     (level : ℕ) (reason : Option ℕ)
-    → IsOpenedOrForced clauses trail starts i lit level reason → IsOpenedOrForced (clauses ++ c ∷ []) trail starts i lit level reason
+    → IsOpenedOrForced clauses trail starts i lit level reason
+    → IsOpenedOrForced (clauses ++ c ∷ []) trail starts i lit level reason
 caused_add clauses c trail starts i lit level None h = h
 caused_add clauses c trail starts i lit level (Some k) h = record {
   clause = h.clause;
@@ -282,12 +280,10 @@ take_same s added level start h here =
     take-append-le start s.trail added (omega arith)
 
 pub whole_grow : (s : SearchState) (counts : List ℕ) (looked head looked' head' : ℕ) (lists : List (List ℕ))
-    (hints hints' : List Hint) (new : List Step) → IsUnderWay s counts looked head lists hints
-    → Grows s.clauses (length s.starts) s.trail new
+    (new : List Step) → IsUnderWay s counts looked head lists → Grows s.clauses (length s.starts) s.trail new
     → AreSteps (record { sizes = s.sizes; steps = new }) → looked' ≤ length s.clauses → head' ≤ length new
-    → MoveHints s.sizes s.clauses s.trail hints hints' → AreGuarded s.sizes s.clauses hints' new head' looked'
-    → IsUnderWay (record s { trail = new }) counts looked' head' lists hints'
-whole_grow s counts looked head looked' head' lists hints hints' new h g valid within before m w =
+    → AreGuarded s.clauses new head' looked' → IsUnderWay (record s { trail = new }) counts looked' head' lists
+whole_grow s counts looked head looked' head' lists new h g valid within before w =
     let added = g.0 in
     let valid' : AreSteps (record { sizes = s.sizes; steps = s.trail ++ added }) =
     subst (λ (t : List Step). AreSteps (record { sizes = s.sizes; steps = t })) g.1 valid in
@@ -296,13 +292,8 @@ whole_grow s counts looked head looked' head' lists hints hints' new h g valid w
     record {
       sound = subst (λ t. IsSound (record s { trail = t })) (sym g.1) (sound_grow s added h.sound g.2 valid');
       guarded = w;
-      were_guarded = λ level start count k c x at at' lt has hint.
-          let front = same level start at in
-          subst (λ t. IsGuarded s.sizes t t c x) (sym front) (elim (m.each k c x has hint) [
-            | inl kept ↦ h.were_guarded level start count k c x at at' lt has kept
-            | inr p ↦ inr (pair_less s.sizes s.trail (take start s.trail) c x (true_longer s.trail start) p)
-          ]);
-      hinted = m.long ∙ h.hinted;
+      were_guarded = λ level start count k c at at' lt has. subst (λ t. IsGuarded t t c) (sym (same level start at))
+          (h.were_guarded level start count k c at at' lt has);
       were_open = λ k c has level start at f. h.were_open k c has level start at
           (subst (λ t. IsFalseIn t c) (same level start at) f);
       listed = h.listed;
@@ -314,28 +305,28 @@ whole_grow s counts looked head looked' head' lists hints hints' new h g valid w
       room = h.room;
     }
 
-pub whole_open : (s : SearchState) (counts : List ℕ) (looked head n : ℕ) (lists : List (List ℕ)) (hints : List Hint)
-    (lit : Lit) → IsUnderWay s counts looked head lists hints → IsSettled s
+pub whole_open : (s : SearchState) (counts : List ℕ) (looked head n : ℕ) (lists : List (List ℕ))
+    (lit : Lit) → IsUnderWay s counts looked head lists → IsSettled s
     → (n ≡ 0) ⊎ ((n ≡ looked) × (head ≡ length s.trail))
     → AreSteps (record { sizes = s.sizes; steps = (open_level s lit).trail })
-    → IsUnderWay (open_level s lit) (counts ++ n ∷ []) looked head lists hints
-whole_open s counts looked head n lists hints lit h calm few valid =
+    → IsUnderWay (open_level s lit) (counts ++ n ∷ []) looked head lists
+whole_open s counts looked head n lists lit h calm few valid =
     let y : Step = record { lit = lit; level = length s.starts + 1; reason = None } in
     let front : take (length s.trail) (s.trail ++ y ∷ []) ≡ s.trail =
     take-append-le (length s.trail) s.trail (y ∷ []) (omega arith) ∙ take_whole s.trail in
     let below : n ≤ looked = elim few [ inl z ↦ omega (arith, z) | inr e ↦ omega (arith, e.0) ] in
     record {
       sound = sound_open s lit h.sound valid;
-      guarded = λ k c x lt has hint.
-          subst (λ known. IsGuarded s.sizes (s.trail ++ y ∷ []) known c x)
+      guarded = λ k c lt has.
+          subst (λ known. IsGuarded (s.trail ++ y ∷ []) known c)
           (sym (take-append-le head s.trail (y ∷ []) h.before))
-          (guarded_grown s.sizes s.trail (y ∷ []) (take head s.trail) c x (h.guarded k c x lt has hint));
-      were_guarded = λ level start count k c x at at' lt has hint.
+          (guarded_grown s.trail (y ∷ []) (take head s.trail) c (h.guarded k c lt has));
+      were_guarded = λ level start count k c at at' lt has.
           elim (get_push s.starts (length s.trail) level start at) [
             | inl low ↦ elim (get_push counts n level count at') [
               | inl low' ↦
-                  subst (λ t. IsGuarded s.sizes t t c x) (sym (take_same s (y ∷ []) level start h.sound low))
-                  (h.were_guarded level start count k c x low low' lt has hint)
+                  subst (λ t. IsGuarded t t c) (sym (take_same s (y ∷ []) level start h.sound low))
+                  (h.were_guarded level start count k c low low' lt has)
               | inr top' ↦ absurd (let w = get_within s.starts level start low in omega (arith, top', h.counted))
             ]
             | inr top ↦ elim (get_push counts n level count at') [
@@ -344,16 +335,15 @@ whole_open s counts looked head n lists hints lit h calm few valid =
                 | inl z ↦ absurd (omega (arith, top', z, lt))
                 | inr e ↦
                     let all : take head s.trail ≡ s.trail = take_all head s.trail (omega (arith, e.1)) in
-                    let here : IsGuarded s.sizes s.trail s.trail c x =
-                    subst (λ known. IsGuarded s.sizes s.trail known c x) all
-                    (h.guarded k c x (omega (arith, lt, top', e.0)) has hint) in
-                    subst (λ t. IsGuarded s.sizes t t c x)
+                    let here : IsGuarded s.trail s.trail c =
+                    subst (λ known. IsGuarded s.trail known c) all
+                    (h.guarded k c (omega (arith, lt, top', e.0)) has) in
+                    subst (λ t. IsGuarded t t c)
                     (sym (ap (λ i. take i (s.trail ++ y ∷ [])) (sym top.1) ∙ front))
                     here
               ]
             ]
           ];
-      hinted = h.hinted;
       were_open = λ k c has level start at f. elim (get_push s.starts (length s.trail) level start at) [
         | inl low ↦
             h.were_open k c has level start low
@@ -374,12 +364,12 @@ whole_open s counts looked head n lists hints lit h calm few valid =
       room = h.room;
     }
 
-pub whole_cut : (s : SearchState) (counts : List ℕ) (looked head : ℕ) (lists : List (List ℕ)) (hints : List Hint)
-    (level start count : ℕ) → IsUnderWay s counts looked head lists hints → slice_get s.starts level ≡ Some start
+pub whole_cut : (s : SearchState) (counts : List ℕ) (looked head : ℕ) (lists : List (List ℕ))
+    (level start count : ℕ) → IsUnderWay s counts looked head lists → slice_get s.starts level ≡ Some start
     → slice_get counts level ≡ Some count
     → IsUnderWay (record s { trail = take start s.trail; starts = take level s.starts }) (take level counts) count start
-    lists hints
-whole_cut s counts looked head lists hints level start count h here here' =
+    lists
+whole_cut s counts looked head lists level start count h here here' =
     let b = h.sound.starts level start here in
     let bw = get_within s.trail start b.1 b.2 in
     let w = get_within s.starts level start here in
@@ -393,14 +383,13 @@ whole_cut s counts looked head lists hints level start count h here here' =
     (low.1, take_take start' start s.trail (omega arith)) in
     record {
       sound = sound_cut s level start h.sound here;
-      guarded = λ k c x lt at hint. subst (λ known. IsGuarded s.sizes (take start s.trail) known c x)
+      guarded = λ k c lt at. subst (λ known. IsGuarded (take start s.trail) known c)
           (sym (take_take start start s.trail (omega arith)))
-          (h.were_guarded level start count k c x here here' lt at hint);
-      were_guarded = λ level' start' count' k c x at at' lt has hint.
+          (h.were_guarded level start count k c here here' lt at);
+      were_guarded = λ level' start' count' k c at at' lt has.
           let e = earlier level' start' at in
-          subst (λ t. IsGuarded s.sizes t t c x) (sym e.1)
-          (h.were_guarded level' start' count' k c x e.0 (get_take level counts level' count' at').1 lt has hint);
-      hinted = h.hinted;
+          subst (λ t. IsGuarded t t c) (sym e.1)
+          (h.were_guarded level' start' count' k c e.0 (get_take level counts level' count' at').1 lt has);
       were_open = λ k c has level' start' at f. let e = earlier level' start' at in
           h.were_open k c has level' start' e.0 (subst (λ t. IsFalseIn t c) e.1 f);
       listed = h.listed;
@@ -413,13 +402,11 @@ whole_cut s counts looked head lists hints level start count h here here' =
     }
 
 pub whole_lists : (s : SearchState) (counts : List ℕ) (looked head : ℕ) (lists lists' : List (List ℕ))
-    (hints : List Hint) → IsUnderWay s counts looked head lists hints → ListsMore lists lists'
-    → IsUnderWay s counts looked head lists' hints
-whole_lists s counts looked head lists lists' hints h more = record {
+    → IsUnderWay s counts looked head lists → ListsMore lists lists' → IsUnderWay s counts looked head lists'
+whole_lists s counts looked head lists lists' h more = record {
   sound = h.sound;
   guarded = h.guarded;
   were_guarded = h.were_guarded;
-  hinted = h.hinted;
   were_open = h.were_open;
   listed = λ k c m at there. more.keeps (code_of s.sizes m) k (h.listed k c m at there);
   long = more.long ∙ h.long;
@@ -430,24 +417,18 @@ whole_lists s counts looked head lists lists' hints h more = record {
   room = h.room;
 }
 
-pub whole_add : (s : SearchState) (counts : List ℕ) (looked head : ℕ) (lists : List (List ℕ)) (hints : List Hint)
-    (c : List Lit) (hint : Hint) → IsUnderWay s counts looked head lists hints → AreInRange s.sizes c
-    → WasOpen s.trail s.starts c
+pub whole_add : (s : SearchState) (counts : List ℕ) (looked head : ℕ) (lists : List (List ℕ))
+    (c : List Lit) → IsUnderWay s counts looked head lists → AreInRange s.sizes c → WasOpen s.trail s.starts c
     → ((m : Lit) → Contains c m → Contains (clauses_of s.sizes lists m) (length s.clauses))
-    → length s.clauses < most_clauses → IsUnderWay (add_clause s c) counts looked head lists (hints ++ hint ∷ [])
-whole_add s counts looked head lists hints c hint h range was listed few =
+    → length s.clauses < most_clauses → IsUnderWay (add_clause s c) counts looked head lists
+whole_add s counts looked head lists c h range was listed few =
     let old : (k : ℕ) (d : List Lit) → k < length s.clauses → slice_get (s.clauses ++ c ∷ []) k ≡ Some d
     → slice_get s.clauses k ≡ Some d = λ k d lt at. get_front_back s.clauses (c ∷ []) k d lt at in
-    let before : (k : ℕ) (x : Hint) → k < length s.clauses → slice_get (hints ++ hint ∷ []) k ≡ Some x
-    → slice_get hints k ≡ Some x = λ k x lt at. get_front_back hints (hint ∷ []) k x (omega (arith, lt, h.hinted)) at in
     record {
       sound = sound_add s c h.sound range;
-      guarded = λ k d x lt at has. let w = h.within in
-          h.guarded k d x lt (old k d (omega (arith, lt, w)) at) (before k x (omega (arith, lt, w)) has);
-      were_guarded = λ level start count k d x at at' lt has hint'. let w = h.below level count at' in
-          h.were_guarded level start count k d x at at' lt (old k d (omega (arith, lt, w)) has)
-          (before k x (omega (arith, lt, w)) hint');
-      hinted = omega (arith, length_push hints hint, length_push s.clauses c, h.hinted);
+      guarded = λ k d lt at. let w = h.within in h.guarded k d lt (old k d (omega (arith, lt, w)) at);
+      were_guarded = λ level start count k d at at' lt has. let w = h.below level count at' in
+          h.were_guarded level start count k d at at' lt (old k d (omega (arith, lt, w)) has);
       were_open = λ k d has. elim (get_push s.clauses c k d has) [
         | inl o ↦ h.were_open k d o
         | inr n ↦ subst (λ z. WasOpen s.trail s.starts z) n.1 was
@@ -467,38 +448,37 @@ whole_add s counts looked head lists hints c hint h range was listed few =
     }
 
 -- a false clause has a literal of the present level, where it wasn't false when that was opened
-pub conflict_of : (s : SearchState) (counts : List ℕ) (looked head : ℕ) (lists : List (List ℕ)) (hints : List Hint)
-    (k : ℕ) (c : List Lit) → IsUnderWay s counts looked head lists hints → slice_get s.clauses k ≡ Some c
+pub conflict_of : (s : SearchState) (counts : List ℕ) (looked head : ℕ) (lists : List (List ℕ))
+    (k : ℕ) (c : List Lit) → IsUnderWay s counts looked head lists → slice_get s.clauses k ≡ Some c
     → IsFalseIn s.trail c → IsConflictAt s k
-conflict_of s counts looked head lists hints k c h at f = record {
+conflict_of s counts looked head lists k c h at f = record {
   clause = c;
   at = at;
   is_false = f;
   present = λ pos. present_of s c h.sound f (h.were_open k c at) pos;
 }
 
-pub settled_from : (s : SearchState) → ((k : ℕ) (c : List Lit) → slice_get s.clauses k ≡ Some c → IsFalseOrUnit s.trail c → ⊥)
+pub settled_from : (s : SearchState)
+    → ((k : ℕ) (c : List Lit) → slice_get s.clauses k ≡ Some c → IsFalseOrUnit s.trail c → ⊥)
     → IsSettled s
 settled_from s h = record { no_false = λ k c at f. h k c at (inl f); no_unit = λ k c u at i. h k c at (inr (u, i)) }
 
 -- what a cut leaves, as the code makes it
 pub cut_whole : (s : SearchState) (z : Sizes) (trail : List Step) (starts counts counts' : List ℕ)
-    (looked head count start level : ℕ) (lists : List (List ℕ)) (hints : List Hint)
-    → IsUnderWay s counts looked head lists hints
+    (looked head count start level : ℕ) (lists : List (List ℕ)) → IsUnderWay s counts looked head lists
     → slice_get s.starts level ≡ Some start → slice_get counts level ≡ Some count → z ≡ s.sizes
     → trail ≡ take start s.trail → starts ≡ take level s.starts → counts' ≡ take level counts
     → IsUnderWay (record { sizes = z; clauses = s.clauses; trail = trail; starts = starts }) counts' count start lists
-    hints
-cut_whole s z trail starts counts counts' looked head count start level lists hints h here here' e1 e2 e3 e4 =
+cut_whole s z trail starts counts counts' looked head count start level lists h here here' e1 e2 e3 e4 =
     subst (λ (w : Sizes). IsUnderWay (record { sizes = w; clauses = s.clauses; trail = trail; starts = starts }) counts'
-    count start lists hints) (sym e1)
-    (subst (λ (t : List Step). IsUnderWay (record s { trail = t; starts = starts }) counts' count start lists hints)
+    count start lists) (sym e1)
+    (subst (λ (t : List Step). IsUnderWay (record s { trail = t; starts = starts }) counts' count start lists)
     (sym e2)
-    (subst (λ (t : List ℕ). IsUnderWay (record s { trail = take start s.trail; starts = t }) counts' count start lists
-    hints) (sym e3)
+    (subst (λ (t : List ℕ). IsUnderWay (record s { trail = take start s.trail; starts = t }) counts' count start lists)
+    (sym e3)
     (subst (λ (t : List ℕ). IsUnderWay (record s { trail = take start s.trail; starts = take level s.starts }) t count
-    start lists hints) (sym e4)
-    (whole_cut s counts looked head lists hints level start count h here here'))))
+    start lists) (sym e4)
+    (whole_cut s counts looked head lists level start count h here here'))))
 
 -- and it is the cut
 pub cut_is : (s : SearchState) (z : Sizes) (clauses : List (List Lit)) (trail : List Step) (starts : List ℕ)
@@ -571,41 +551,40 @@ open_under s c top h t =
     ]
 
 pub cut_add_whole : (s : SearchState) (z : Sizes) (trail : List Step) (starts counts counts' : List ℕ)
-    (looked head count start level : ℕ) (lists : List (List ℕ)) (hints hints' : List Hint) (c : List Lit) (hint : Hint)
-    (clauses : List (List Lit)) → IsUnderWay s counts looked head lists hints
+    (looked head count start level : ℕ) (lists : List (List ℕ)) (c : List Lit) (clauses : List (List Lit))
+    → IsUnderWay s counts looked head lists
     → slice_get s.starts level ≡ Some start → slice_get counts level ≡ Some count → z ≡ s.sizes
     → trail ≡ take start s.trail → starts ≡ take level s.starts → counts' ≡ take level counts
-    → clauses ≡ s.clauses ++ c ∷ [] → hints' ≡ hints ++ hint ∷ []
+    → clauses ≡ s.clauses ++ c ∷ []
     → AreInRange s.sizes c → WasOpen (cut s level).trail (cut s level).starts c
     → ((m : Lit) → Contains c m → Contains (clauses_of s.sizes lists m) (length s.clauses))
     → length s.clauses < most_clauses
-    → IsUnderWay (record { sizes = z; clauses = clauses; trail = trail; starts = starts }) counts' count start lists hints'
-cut_add_whole s z trail starts counts counts' looked head count start level lists hints hints' c hint clauses h here
-    here' e1 e2 e3 e4 e5 e6 range was listed few =
-    subst (λ (x : List Hint). IsUnderWay (record { sizes = z; clauses = clauses; trail = trail; starts = starts }) counts'
-    count start lists x) (sym e6)
-    (subst (λ (w : Sizes). IsUnderWay (record { sizes = w; clauses = clauses; trail = trail; starts = starts }) counts'
-    count start lists (hints ++ hint ∷ [])) (sym e1)
-    (subst (λ (t : List Step). IsUnderWay (record s { clauses = clauses; trail = t; starts = starts }) counts' count start
-    lists (hints ++ hint ∷ [])) (sym e2)
+    → IsUnderWay (record { sizes = z; clauses = clauses; trail = trail; starts = starts }) counts' count start lists
+cut_add_whole s z trail starts counts counts' looked head count start level lists c clauses h here here' e1 e2 e3 e4 e5
+    range was listed few =
+    subst (λ (w : Sizes). IsUnderWay (record { sizes = w; clauses = clauses; trail = trail; starts = starts }) counts'
+    count start lists) (sym e1)
+    (subst (λ (t : List Step). IsUnderWay (record s { clauses = clauses; trail = t; starts = starts }) counts' count
+    start
+    lists) (sym e2)
     (subst (λ (t : List ℕ). IsUnderWay (record s { clauses = clauses; trail = take start s.trail; starts = t }) counts'
-    count start lists (hints ++ hint ∷ [])) (sym e3)
+    count start lists) (sym e3)
     (subst (λ (t : List ℕ). IsUnderWay
-    (record s { clauses = clauses; trail = take start s.trail; starts = take level s.starts }) t count start lists
-    (hints ++ hint ∷ [])) (sym e4)
+    (record s { clauses = clauses; trail = take start s.trail; starts = take level s.starts }) t count start lists)
+    (sym e4)
     (subst (λ (cs : List (List Lit)). IsUnderWay
     (record s { clauses = cs; trail = take start s.trail; starts = take level s.starts }) (take level counts) count
-    start lists (hints ++ hint ∷ [])) (sym e5)
+    start lists) (sym e5)
     (whole_add (record s { trail = take start s.trail; starts = take level s.starts }) (take level counts) count start
-    lists hints c hint (whole_cut s counts looked head lists hints level start count h here here') range
+    lists c (whole_cut s counts looked head lists level start count h here here') range
     (subst (λ n. WasOpen (take n s.trail) (take level s.starts) c)
-    (end_of_at s.starts level (length s.trail) start here) was) listed few))))))
+    (end_of_at s.starts level (length s.trail) start here) was) listed few)))))
 
 pub whole_retract : (s : SearchState) (counts : List ℕ) (looked head place : ℕ) (lists : List (List ℕ))
-    (hints : List Hint) → IsUnderWay s counts looked head lists hints → place ≤ length s.trail
+    → IsUnderWay s counts looked head lists → place ≤ length s.trail
     → ((level start : ℕ) → slice_get s.starts level ≡ Some start → start < place) → length s.starts ≤ place
-    → IsUnderWay (record s { trail = take place s.trail }) counts 0 place lists hints
-whole_retract s counts looked head place lists hints h within present levels =
+    → IsUnderWay (record s { trail = take place s.trail }) counts 0 place lists
+whole_retract s counts looked head place lists h within present levels =
     let long : length (take place s.trail) ≡ place = length-take-le place s.trail within in
     let same : (level start : ℕ) → slice_get s.starts level ≡ Some start
     → take start (take place s.trail) ≡ take start s.trail = λ level start at. take_take start place s.trail
@@ -625,10 +604,9 @@ whole_retract s counts looked head place lists hints h within present levels =
         starts = λ level start at. let b = v.starts level start at in
             (b.0, b.1, take_get place s.trail start b.1 (present level start at) b.2, b.3);
       };
-      guarded = λ k c x lt at hint. absurd (omega (arith, lt));
-      were_guarded = λ level start count k c x at at' lt has hint. subst (λ t. IsGuarded s.sizes t t c x)
-          (sym (same level start at)) (h.were_guarded level start count k c x at at' lt has hint);
-      hinted = h.hinted;
+      guarded = λ k c lt at. absurd (omega (arith, lt));
+      were_guarded = λ level start count k c at at' lt has. subst (λ t. IsGuarded t t c)
+          (sym (same level start at)) (h.were_guarded level start count k c at at' lt has);
       were_open = λ k c has level start at f. h.were_open k c has level start at
           (subst (λ t. IsFalseIn t c) (same level start at) f);
       listed = h.listed;
@@ -639,15 +617,3 @@ whole_retract s counts looked head place lists hints h within present levels =
       below = h.below;
       room = h.room;
     }
-
--- the rows of one clause more
-pub rows_push : (s z : Sizes) (cs : List (List Lit)) (rows : List (List Numbered)) (c : List Lit) (r : List Numbered)
-    → rows ≡ rows_of s cs → r ≡ row_of z c → z ≡ s → rows ++ r ∷ [] ≡ rows_of s (cs ++ c ∷ [])
-rows_push s z cs rows c r e f g =
-    ap (λ (x : List (List Numbered)). x ++ r ∷ []) e
-    ∙ ap (λ (x : List Numbered). rows_of s cs ++ x ∷ []) (f ∙ ap (λ (y : Sizes). row_of y c) g)
-    ∙ sym (map-append (row_of s) cs (c ∷ []))
-
-pub rows_sized : (s z : Sizes) (cs : List (List Lit)) (rows : List (List Numbered)) → rows ≡ rows_of s cs → z ≡ s
-    → rows ≡ rows_of z cs
-rows_sized s z cs rows e f = e ∙ ap (λ (y : Sizes). rows_of y cs) (sym f)

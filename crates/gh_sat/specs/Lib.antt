@@ -1,4 +1,3 @@
-pub mod Rows
 pub mod Trail
 pub mod Status
 pub mod Watch
@@ -8,4 +7,3 @@ pub mod Whole
 pub mod Fields
 pub mod Theory
 pub mod Measure
-pub mod Hinted

@@ -22,25 +22,19 @@ IsFurther old new =
 abbrev pub StepsLeadFurther : Type 0
 StepsLeadFurther = (trail : List Step) (x : Step) (more : List Step) → IsFurther trail (trail ++ x ∷ more)
 
--- a level to which the trail may be cut after a lesson: the lesson's or a higher one, below the present one
-abbrev pub IsCutLevel : SearchState → ℕ → ℕ → Type 0
-IsCutLevel s level to = (level ≤ to) × (to < length s.starts)
-
--- after such a cut the learnt unit is assigned first, at the level of the cut and by the learnt clause
+-- after the cut to a lesson's level the learnt unit is assigned first, at that level and by the learnt clause
 abbrev pub UnitsAreAssigned : Type 0
 UnitsAreAssigned =
-    (s : SearchState) (k : ℕ) (clause : List Lit) (level : ℕ) (unit : Lit) (to : ℕ) (new : List Step) → IsSound s
-    → IsLearnt s k clause level unit → IsCutLevel s level to
-    → GivesLast (cut (add_clause s clause) to) new
-    → (more : List Step) × (new ≡ (cut s to).trail
-    ++ (record { lit = unit; level = to; reason = Some (length s.clauses) }) ∷ [] ++ more)
+    (s : SearchState) (k : ℕ) (clause : List Lit) (level : ℕ) (unit : Lit) (new : List Step) → IsSound s
+    → IsLearnt s k clause level unit → GivesLast (cut (add_clause s clause) level) new
+    → (more : List Step) × (new ≡ (cut s level).trail
+    ++ (record { lit = unit; level = level; reason = Some (length s.clauses) }) ∷ [] ++ more)
 
--- after such a cut and the propagation, the measure is greater than before the cut
+-- after that cut and the propagation, the measure is greater than before the cut
 abbrev pub JumpsLeadFurther : Type 0
 JumpsLeadFurther =
-    (s : SearchState) (k : ℕ) (clause : List Lit) (level : ℕ) (unit : Lit) (to : ℕ) (new : List Step) → IsSound s
-    → IsLearnt s k clause level unit → IsCutLevel s level to
-    → GivesLast (cut (add_clause s clause) to) new → IsFurther s.trail new
+    (s : SearchState) (k : ℕ) (clause : List Lit) (level : ℕ) (unit : Lit) (new : List Step) → IsSound s
+    → IsLearnt s k clause level unit → GivesLast (cut (add_clause s clause) level) new → IsFurther s.trail new
 
 abbrev pub power : ℕ → ℕ → ℕ
 power b zero = 1
@@ -65,10 +59,9 @@ StepsLeaveLess =
     (sizes : Sizes) (trail : List Step) (x : Step) (more : List Step) → length (trail ++ x ∷ more) ≤ count_of sizes
     → left sizes (trail ++ x ∷ more) < left sizes trail
 
--- after such a cut and the propagation, less is left than before the cut
+-- after the cut to a lesson's level and the propagation, less is left than before the cut
 abbrev pub JumpsLeaveLess : Type 0
 JumpsLeaveLess =
-    (s : SearchState) (k : ℕ) (clause : List Lit) (level : ℕ) (unit : Lit) (to : ℕ) (new : List Step) → IsSound s
-    → IsLearnt s k clause level unit → IsCutLevel s level to
-    → GivesLast (cut (add_clause s clause) to) new → length new ≤ count_of s.sizes
+    (s : SearchState) (k : ℕ) (clause : List Lit) (level : ℕ) (unit : Lit) (new : List Step) → IsSound s
+    → IsLearnt s k clause level unit → GivesLast (cut (add_clause s clause) level) new → length new ≤ count_of s.sizes
     → left s.sizes new < left s.sizes s.trail

@@ -1,17 +1,13 @@
 -- What a clause is under a trail, and unit propagation.
-use Rattle.std.specs.Prelude.{◌≡◌, ◌≢◌, ◌⊎◌, ⊤, ℕ, ◌+◌, List, [], ◌∷◌, ◌++◌, All, Any, Contains, Some, length, take}
+use Rattle.std.specs.Prelude.{◌≡◌, ◌≢◌, ◌⊎◌, ⊤, ℕ, List, [], ◌∷◌, ◌++◌, All, Any, Contains, Some, length}
 use Rattle.std.specs.Prelude.{slice_get}
 use Rattle.gh_base.specs.declared.atom.Atom.{Atom}
 use Rattle.gh_base.specs.declared.atom.Lit.{Lit}
-use Rattle.gh_base.specs.declared.sizes.Sizes.{Sizes}
-use Rattle.gh_base.specs.Atoms.{AreInRange, opposite}
-use Rattle.gh_sat.specs.declared.rows.Numbered.{Numbered}
-use Rattle.gh_sat.specs.Rows.{numbered}
-use Rattle.gh_sat.specs.declared.status.Hint.{Hint}
+use Rattle.gh_base.specs.Atoms.{opposite}
 use Rattle.gh_sat.specs.declared.trail.Step.{Step}
 use Rattle.gh_sat.specs.declared.status.Status.{Status}
 use Rattle.gh_sat.specs.declared.status.Status.TheVariants.{False, Unit as IsOne, Open}
-use Rattle.gh_sat.specs.Trail.{Line, SearchState, IsFree, IsTrueIn, IsFalseIn, IsUnitIn}
+use Rattle.gh_sat.specs.Trail.{SearchState, IsFree, IsTrueIn, IsFalseIn, IsUnitIn}
 
 -- the clause is false, or unit
 abbrev pub IsFalseOrUnit : List Step → List Lit → Type 0
@@ -20,53 +16,49 @@ IsFalseOrUnit trail clause = IsFalseIn trail clause ⊎ ((u : Lit) × IsUnitIn t
 abbrev pub IsStatus : List Step → List Lit → Status → Type 0
 IsStatus trail clause False = IsFalseIn trail clause
 IsStatus trail clause (IsOne unit) = IsUnitIn trail clause unit
-IsStatus trail clause (Open hint) = IsFalseOrUnit trail clause → ⊥
+IsStatus trail clause Open = IsFalseOrUnit trail clause → ⊥
 
--- the hint has the numbers of two literals of the clause that aren't false by the steps that are known
-pub record IsPair (s : Sizes) (known : List Step) (clause : List Lit) (hint : Hint) : Type 0 where
+-- two literals of the clause aren't false by the steps that are known
+pub record HasPair (known : List Step) (clause : List Lit) : Type 0 where
   pub one : Lit
   pub other : Lit
   pub one_in : Contains clause one
   pub other_in : Contains clause other
-  pub first : numbered s one ≡ hint.first
-  pub second : numbered s other ≡ hint.second
   pub differ : one ≢ other
   pub one_open : IsTrueIn known (opposite one) → ⊥
   pub other_open : IsTrueIn known (opposite other) → ⊥
 
--- a literal of the clause is true, or its hint has two that aren't false by what is known
-abbrev pub IsGuarded : Sizes → List Step → List Step → List Lit → Hint → Type 0
-IsGuarded s trail known clause hint = ((l : Lit) × Contains clause l × IsTrueIn trail l) ⊎ IsPair s known clause hint
+-- a literal of the clause is true
+abbrev pub IsSatisfied : List Step → List Lit → Type 0
+IsSatisfied trail clause = (l : Lit) × Contains clause l × IsTrueIn trail l
 
--- a guarded clause stays guarded by the step at `head` too, where that step makes the literal `gone` false
-abbrev pub StaysGuarded : Line → Hint → Numbered → Type 0
-StaysGuarded t hint gone =
-    (head : ℕ) (x : Step) (clause : List Lit) → AreInRange t.sizes clause → slice_get t.steps head ≡ Some x
-    → numbered t.sizes (opposite x.lit) ≡ gone
-    → IsGuarded t.sizes t.steps (take head t.steps) clause hint
-    → IsGuarded t.sizes t.steps (take (head + 1) t.steps) clause hint
+-- a literal of the clause is true, or two aren't false by what is known
+abbrev pub IsGuarded : List Step → List Step → List Lit → Type 0
+IsGuarded trail known clause = IsSatisfied trail clause ⊎ HasPair known clause
 
--- where the clause is open, its hint stays or has two literals that aren't false
-abbrev pub KeepsHint : Sizes → List Step → List Lit → Hint → Status → Type 0
-KeepsHint s trail clause old (Open hint) =
-    IsGuarded s trail trail clause hint × ((hint ≡ old) ⊎ IsPair s trail clause hint)
-KeepsHint s trail clause old status = ⊤
+-- where the clause is open, it is guarded
+abbrev pub GuardsOpen : List Step → List Lit → Status → Type 0
+GuardsOpen trail clause Open = IsGuarded trail trail clause
+GuardsOpen trail clause status = ⊤
 
--- each atom of the clause has a truth
-abbrev pub IsAssigned : List Step → List Lit → Type 0
-IsAssigned trail clause = All (λ l. IsFree trail l.atom → ⊥) clause
+-- the literal stands in the clause and isn't false
+abbrev pub IsOpenIn : List Step → List Lit → Lit → Type 0
+IsOpenIn trail clause l = Contains clause l × (IsTrueIn trail (opposite l) → ⊥)
 
--- each atom of each clause has a truth
-abbrev pub AreAssigned : SearchState → Type 0
-AreAssigned s = All (IsAssigned s.trail) s.clauses
+-- so does another one
+abbrev pub HasOtherOpen : List Step → List Lit → Lit → Type 0
+HasOtherOpen trail clause one = (l : Lit) × (l ≢ one) × IsOpenIn trail clause l
+
+abbrev pub IsSatisfiedOrFalse : List Step → List Lit → Type 0
+IsSatisfiedOrFalse trail clause = IsSatisfied trail clause ⊎ IsFalseIn trail clause
+
+-- each clause has a true literal
+abbrev pub AreSatisfied : SearchState → Type 0
+AreSatisfied s = All (IsSatisfied s.trail) s.clauses
 
 -- the atom is that of a literal of the clause
 abbrev pub HasAtom : List Lit → Atom → Type 0
 HasAtom clause atom = Any (λ l. l.atom ≡ atom) clause
-
--- .. of the clause of a number
-abbrev pub HasAtomAt : List (List Lit) → Atom → ℕ → Type 0
-HasAtomAt clauses atom k = (c : List Lit) × (slice_get clauses k ≡ Some c) × HasAtom c atom
 
 -- the atom occurs in a clause
 abbrev pub OccursIn : List (List Lit) → Atom → Type 0

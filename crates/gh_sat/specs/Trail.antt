@@ -1,11 +1,11 @@
 -- The trail of a search: the literals that are true, in the order in which they became so, and the levels that
 -- decisions open.
-use Rattle.std.specs.Prelude.{◌≡◌, ◌≢◌, ◌⊎◌, ℕ, zero, suc, ◌+◌, ◌-◌, ◌<◌, ◌≤◌, nat_lt, if◌then◌else◌, List, [], ◌∷◌}
+use Rattle.std.specs.Prelude.{◌≡◌, ◌≢◌, ◌⊎◌, ℕ, zero, suc, ◌+◌, ◌<◌, ◌≤◌, List, [], ◌∷◌}
 use Rattle.std.specs.Prelude.{◌++◌, All, Contains, Bool, true, false, Option, Some, None, length, take, slice_get}
 use Rattle.gh_base.specs.declared.atom.Atom.{Atom}
 use Rattle.gh_base.specs.declared.atom.Lit.{Lit}
 use Rattle.gh_base.specs.declared.sizes.Sizes.{Sizes}
-use Rattle.gh_base.specs.Atoms.{opposite, IsInRange, AreInRange, number_of, btwn_start, def_start, count_of}
+use Rattle.gh_base.specs.Atoms.{opposite, IsInRange, AreInRange, number_of, count_of}
 use Rattle.gh_base.specs.Assignments.{Partial, value_of}
 use Rattle.gh_sat.specs.declared.trail.Step.{Step}
 
@@ -128,27 +128,19 @@ abbrev pub ArePlaces : Sizes → List ℕ → List Step → Type 0
 ArePlaces s places trail =
     (i : ℕ) (x : Step) → slice_get trail i ≡ Some x → slice_get places (number_of s x.lit.atom) ≡ Some i
 
--- the order of decisions: equalities, then the atoms with a version from the greatest number down, then definitions. It
--- gives the number at a place, and the place of a number
-abbrev pub turned : Sizes → ℕ → ℕ
-turned s n =
-    if nat_lt n (btwn_start s) then n else (if nat_lt n (def_start s) then btwn_start s + (def_start s - 1 - n) else n)
-
--- the atom at a place in this order has no truth
+-- the atom of this number has no truth
 abbrev pub IsFreeAt : Partial → ℕ → Type 0
-IsFreeAt p place = slice_get p.values (turned p.sizes place) ≡ Some None
+IsFreeAt p number = slice_get p.values number ≡ Some None
 
--- the atoms whose places stand before the cursor have a truth
+-- the atoms of the numbers below this one have a truth
 abbrev pub IsPassed : Partial → ℕ → Type 0
-IsPassed p cursor = (i : ℕ) → i < cursor → slice_get p.values (turned p.sizes i) ≢ Some None
+IsPassed p end = (i : ℕ) → i < end → slice_get p.values i ≢ Some None
 
--- the tables are those of the trail, each place before the cursor is passed, and all atoms have room
-abbrev pub AreTrailTables : Partial → List ℕ → List Step → ℕ → ℕ → Type 0
-AreTrailTables p places trail cursor room =
+-- the tables are those of the trail, and all atoms have room
+abbrev pub AreTrailTables : Partial → List ℕ → List Step → ℕ → Type 0
+AreTrailTables p places trail room =
     AreValues p trail
     × ArePlaces p.sizes places trail
-    × IsPassed p cursor
-    × (cursor ≤ count_of p.sizes)
     × (length places ≡ count_of p.sizes)
     × (count_of p.sizes ≤ room)
 

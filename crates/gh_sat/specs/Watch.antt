@@ -1,31 +1,22 @@
 -- Which clauses need no look.
-use Rattle.std.specs.Prelude.{◌≡◌, ◌⊎◌, ℕ, ◌+◌, ◌*◌, ◌<◌, List, [], Bool, true, false, Some, All, Contains, length, map}
+use Rattle.std.specs.Prelude.{◌≡◌, ℕ, ◌+◌, ◌*◌, ◌<◌, List, [], Bool, true, false, Some, All, Contains, length, map}
 use Rattle.std.specs.Prelude.{take, slice_get, slice_index_or}
 use Rattle.gh_base.specs.declared.atom.Lit.{Lit}
 use Rattle.gh_base.specs.declared.sizes.Sizes.{Sizes}
 use Rattle.gh_base.specs.Atoms.{number_of}
-use Rattle.gh_sat.specs.declared.status.Hint.{Hint}
 use Rattle.gh_sat.specs.declared.trail.Step.{Step}
 use Rattle.gh_sat.specs.Trail.{SearchState, IsFalseIn}
-use Rattle.gh_sat.specs.Status.{IsPair, IsGuarded}
+use Rattle.gh_sat.specs.Status.{IsGuarded}
 
 -- each clause that was looked at has a true literal, or two that aren't false before `head`
-abbrev pub AreGuarded : Sizes → List (List Lit) → List Hint → List Step → ℕ → ℕ → Type 0
-AreGuarded s clauses hints trail head looked =
-    (k : ℕ) (c : List Lit) (h : Hint) → k < looked → slice_get clauses k ≡ Some c → slice_get hints k ≡ Some h
-    → IsGuarded s trail (take head trail) c h
+abbrev pub AreGuarded : List (List Lit) → List Step → ℕ → ℕ → Type 0
+AreGuarded clauses trail head looked =
+    (k : ℕ) (c : List Lit) → k < looked → slice_get clauses k ≡ Some c → IsGuarded trail (take head trail) c
 
 -- the same with the step at `head`, for all but the clauses that are left
-abbrev pub AreVisited : Sizes → List (List Lit) → List Hint → List Step → ℕ → ℕ → List ℕ → Type 0
-AreVisited s clauses hints trail head looked rest =
-    (k : ℕ) (c : List Lit) (h : Hint) → k < looked → slice_get clauses k ≡ Some c → slice_get hints k ≡ Some h
-    → (Contains rest k → ⊥) → IsGuarded s trail (take (head + 1) trail) c h
-
--- each hint stays or has two literals that aren't false on the trail
-pub record MoveHints (s : Sizes) (clauses : List (List Lit)) (trail : List Step) (old new : List Hint) : Type 0 where
-  pub long : length new ≡ length old
-  pub each : (k : ℕ) (c : List Lit) (h : Hint) → slice_get clauses k ≡ Some c → slice_get new k ≡ Some h
-      → (slice_get old k ≡ Some h) ⊎ IsPair s trail c h
+abbrev pub AreVisited : List (List Lit) → List Step → ℕ → ℕ → List ℕ → Type 0
+AreVisited clauses trail head looked rest = (k : ℕ) (c : List Lit) → k < looked → slice_get clauses k ≡ Some c
+    → (Contains rest k → ⊥) → IsGuarded trail (take (head + 1) trail) c
 
 -- the numbers of literals: an atom's negative one, then its positive one
 abbrev pub sign : Bool → ℕ
@@ -64,11 +55,11 @@ pub record ListsMore (old new : List (List ℕ)) : Type 0 where
   pub keeps : (code k : ℕ) → Contains (slice_index_or old code []) k → Contains (slice_index_or new code []) k
 
 -- when a level was opened, so many clauses had a true literal, or two that weren't false
-abbrev pub WereGuarded : Sizes → List (List Lit) → List Hint → List Step → List ℕ → List ℕ → Type 0
-WereGuarded s clauses hints trail starts counts =
-    (level start count k : ℕ) (c : List Lit) (h : Hint) → slice_get starts level ≡ Some start
-    → slice_get counts level ≡ Some count → k < count → slice_get clauses k ≡ Some c → slice_get hints k ≡ Some h
-    → IsGuarded s (take start trail) (take start trail) c h
+abbrev pub WereGuarded : List (List Lit) → List Step → List ℕ → List ℕ → Type 0
+WereGuarded clauses trail starts counts =
+    (level start count k : ℕ) (c : List Lit) → slice_get starts level ≡ Some start
+    → slice_get counts level ≡ Some count → k < count → slice_get clauses k ≡ Some c
+    → IsGuarded (take start trail) (take start trail) c
 
 -- the clause wasn't false when a level was opened
 abbrev pub WasOpen : List Step → List ℕ → List Lit → Type 0

@@ -5,18 +5,15 @@ use Rattle.gh_base.specs.Atoms.{count_of}
 use Rattle.gh_sat.specs.declared.trail.Step.{Step}
 use Rattle.gh_sat.specs.Trail.{SearchState, IsFalseIn, IsSound, cut, most_clauses}
 use Rattle.gh_sat.specs.Status.{Grows, PutsLastFirst}
-use Rattle.gh_sat.specs.declared.status.Hint.{Hint}
 use Rattle.gh_sat.specs.Watch.{AreGuarded, AreListed, WereGuarded, WereOpen}
 use Rattle.gh_sat.specs.Learn.{IsTop, add_clause}
 
 -- `counts` tells for each level how many clauses had been looked at when it was opened, `looked` clauses were looked
 -- at, and the trail is propagated up to `head`
-pub record IsUnderWay (s : SearchState) (counts : List ℕ) (looked head : ℕ) (lists : List (List ℕ))
-    (hints : List Hint) : Type 0 where
+pub record IsUnderWay (s : SearchState) (counts : List ℕ) (looked head : ℕ) (lists : List (List ℕ)) : Type 0 where
   pub sound : IsSound s
-  pub guarded : AreGuarded s.sizes s.clauses hints s.trail head looked
-  pub were_guarded : WereGuarded s.sizes s.clauses hints s.trail s.starts counts
-  pub hinted : length hints ≡ length s.clauses
+  pub guarded : AreGuarded s.clauses s.trail head looked
+  pub were_guarded : WereGuarded s.clauses s.trail s.starts counts
   pub were_open : WereOpen s
   pub listed : AreListed s.sizes s.clauses lists
   pub long : length lists ≡ 2 * count_of s.sizes

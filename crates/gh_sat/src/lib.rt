@@ -1,16 +1,13 @@
 //! Clause learning: a search over ground clauses beside a theory.
 #![tactic(auto)]
 
-mod activity;
-mod hinted;
-pub mod learner;
+pub mod clause_search;
 mod marks;
 pub mod measure;
 mod needed;
 mod occurrences;
 mod propagation;
 mod reasons;
-mod rows;
 pub mod search;
 mod status;
 pub mod theory;

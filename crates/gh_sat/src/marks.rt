@@ -4,7 +4,8 @@ ghost use Rattle.std.specs.Prelude.{◌≡◌, ℕ, ◌+◌, ◌<◌, ◌≤◌,
 ghost use Rattle.gh_base.specs.Atoms.{AreInRange, IsInRange};
 ghost use Rattle.gh_sat.specs.Trail.{IsFalseIn, AreSteps};
 ghost use Rattle.gh_sat.specs.Learn.{marks_of, HasRound, HasMark, AllMarked, IsBounded, AreMarks, MarksMore};
-ghost use Rattle.gh_sat.specs.Learn.{HaveReasons, IsLastMarked, AreMarksWithin, IsMarkedOrFalse, IsPresent, marked_before};
+ghost use Rattle.gh_sat.specs.Learn.{HaveReasons, IsLastMarked, AreMarksWithin, IsMarkedOrFalse, IsPresent};
+ghost use Rattle.gh_sat.specs.Learn.{marked_before};
 
 use crate::trail::Trail;
 use gh_base::atom::Lit;

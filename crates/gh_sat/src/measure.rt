@@ -8,8 +8,7 @@ pub fn steps_lead_further()
     ensures { StepsLeadFurther }
 {}
 
-/// A learnt unit is assigned at the level of the cut when propagation answers after a cut to the lesson's level or
-/// above.
+/// A learnt unit is assigned at the lesson's level when propagation answers after the cut to it.
 pub fn units_are_assigned()
     ensures { UnitsAreAssigned }
 {}

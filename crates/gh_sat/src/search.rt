@@ -2,15 +2,16 @@
 
 ghost use Rattle.std.specs.Prelude.{◌≡◌, ◌≤◌, ◌<◌, [], length, IfOk, OnOk, OnErr, IfSome, IfNone, option_copied};
 ghost use Rattle.std.specs.Prelude.{slice_get};
-ghost use Rattle.gh_base.specs.Atoms.{IsInRange, AreInRange};
+ghost use Rattle.gh_base.specs.Atoms.{IsInRange, AreInRange, negative};
 ghost use Rattle.gh_sat.specs.Trail.{SearchState, IsAssignmentOf, IsSound, IsFree, cut, AllHaveTruth, OpensLevel};
 ghost use Rattle.gh_sat.specs.Trail.{search_over, most_clauses};
-ghost use Rattle.gh_sat.specs.Status.{IsSettled, AreAssigned, OccursIn};
+ghost use Rattle.gh_sat.specs.Status.{IsSettled, AreSatisfied, OccursIn};
 ghost use Rattle.gh_sat.specs.Learn.{IsConflictAt, IsLearnt, AreReasons, add_clause};
 ghost use Rattle.gh_sat.specs.Whole.{GivesLast, AddsClause};
-ghost use Rattle.gh_sat.specs.Theory.{lits_of, IsAsserted, IsConsistentWith, WereConsistent, PropagatesBeside, AddsValid};
+ghost use Rattle.gh_sat.specs.Theory.{lits_of, IsAsserted, IsConsistentWith, WereConsistent, PropagatesBeside};
+ghost use Rattle.gh_sat.specs.Theory.{AddsValid};
 
-use crate::learner::{Learner, Learnt};
+use crate::clause_search::{ClauseSearch, Learnt};
 use crate::theory::Theory;
 use crate::trail::Step;
 use gh_base::assignment::Assignment;
@@ -23,7 +24,7 @@ use std::marker::Model;
 /// Clauses, a trail with its levels, and a theory that knows a front of the trail.
 #[derive(Drop)]
 pub struct Search<T: Theory> {
-    learner: Learner,
+    search: ClauseSearch,
     theory: T,
 }
 
@@ -33,20 +34,20 @@ impl<T: Theory> Model for Search<T> {
 
     ghost Value = { SearchState };
 
-    ghost view = { λ s. s.learner };
+    ghost view = { λ s. s.search };
 
-    ghost invariant = { λ s. IsBeside T.valid (T.asserted s.theory) (T.sizes s.theory) s.learner };
+    ghost invariant = { λ s. IsBeside T.valid (T.asserted s.theory) (T.sizes s.theory) s.search };
 }
 
 // Asserts what the theory doesn't know yet of the trail.
-fn tell<T: Theory>(learner: &Learner, theory: &mut T)
-    requires told { IsAsserted (T.asserted theory.old) learner.now.trail }
-    requires sizes { T.sizes theory.old ≡ learner.now.sizes }
-    ensures told { T.asserted theory.new ≡ lits_of learner.now.trail }
-    ensures sizes { T.sizes theory.new ≡ learner.now.sizes }
-    ensures sound { IsSound learner.now }
+fn tell<T: Theory>(search: &ClauseSearch, theory: &mut T)
+    requires told { IsAsserted (T.asserted theory.old) search.now.trail }
+    requires sizes { T.sizes theory.old ≡ search.now.sizes }
+    ensures told { T.asserted theory.new ≡ lits_of search.now.trail }
+    ensures sizes { T.sizes theory.new ≡ search.now.sizes }
+    ensures sound { IsSound search.now }
 {
-    let steps = learner.steps();
+    let steps = search.steps();
     let mut place = theory.mark() as usize;
     while place < steps.len() {
         theory.assert(steps[place].lit);
@@ -57,28 +58,28 @@ fn tell<T: Theory>(learner: &Learner, theory: &mut T)
 // Adds a conflict of the theory as a clause, if there is one, and answers its number.
 fn refute<T: Theory>(
     alloc: Global,
-    learner: &mut Learner,
+    search: &mut ClauseSearch,
     theory: &T,
 ) -> Result<Option<u32>, AllocError>
-    requires told { T.asserted theory.now ≡ lits_of learner.old.trail }
-    requires sizes { T.sizes theory.now ≡ learner.old.sizes }
-    requires sound { IsSound learner.old }
-    requires consistent { WereConsistent (T.valid learner.old.sizes) learner.old.trail learner.old.starts }
-    ensures number { IfOk result (λ o. IfSome o (λ k. k ≡ length learner.old.clauses)) }
-    ensures added { IfOk result (λ o. IfSome o (λ _. AddsValid (T.valid learner.old.sizes) learner.old learner.new)) }
-    ensures conflict { IfOk result (λ o. IfSome o (λ k. IsConflictAt learner.new k)) }
-    ensures none { IfOk result (λ o. IfNone o (IsConsistentWith T.valid learner.old)) }
-    ensures known { IfOk result (λ o. IfNone o (T.known learner.old.sizes (lits_of learner.old.trail))) }
-    ensures same { IfOk result (λ o. IfNone o (learner.new ≡ learner.old)) }
-    ensures sound { OnOk result (IsSound learner.new) }
-    ensures few { OnOk result (length learner.new.clauses ≤ most_clauses) }
-    ensures err { OnErr result (learner.new ≡ learner.old) }
+    requires told { T.asserted theory.now ≡ lits_of search.old.trail }
+    requires sizes { T.sizes theory.now ≡ search.old.sizes }
+    requires sound { IsSound search.old }
+    requires consistent { WereConsistent (T.valid search.old.sizes) search.old.trail search.old.starts }
+    ensures number { IfOk result (λ o. IfSome o (λ k. k ≡ length search.old.clauses)) }
+    ensures added { IfOk result (λ o. IfSome o (λ _. AddsValid (T.valid search.old.sizes) search.old search.new)) }
+    ensures conflict { IfOk result (λ o. IfSome o (λ k. IsConflictAt search.new k)) }
+    ensures none { IfOk result (λ o. IfNone o (IsConsistentWith T.valid search.old)) }
+    ensures known { IfOk result (λ o. IfNone o (T.known search.old.sizes (lits_of search.old.trail))) }
+    ensures same { IfOk result (λ o. IfNone o (search.new ≡ search.old)) }
+    ensures sound { OnOk result (IsSound search.new) }
+    ensures few { OnOk result (length search.new.clauses ≤ most_clauses) }
+    ensures err { OnErr result (search.new ≡ search.old) }
 {
-    let number = learner.count();
+    let number = search.count();
     match theory.conflict(alloc)? {
         None => Ok(None),
         Some(clause) => {
-            learner.insert(clause)?;
+            search.insert(clause)?;
             Ok(Some(number))
         }
     }
@@ -93,22 +94,22 @@ impl<T: Theory> Search<T> {
         ensures over { IfOk result (λ s. s ≡ search_over ground.now.sizes ground.now.clauses) }
         ensures few { OnOk result (length ground.now.clauses ≤ most_clauses) }
     {
-        let learner = Learner::new(alloc, ground)?;
-        Ok(Search { learner, theory })
+        let search = ClauseSearch::new(alloc, ground)?;
+        Ok(Search { search, theory })
     }
 
     /// The present level.
     pub fn level(&self) -> u32
         ensures { result ≡ length self.now.starts }
     {
-        self.learner.level()
+        self.search.level()
     }
 
     /// The truth of each literal.
     pub fn assignment(&self) -> &Assignment
         ensures { IsAssignmentOf result.now (record { sizes = self.now.sizes; steps = self.now.trail }) }
     {
-        self.learner.assignment()
+        self.search.assignment()
     }
 
     /// The trail.
@@ -116,7 +117,7 @@ impl<T: Theory> Search<T> {
         ensures steps { result.now ≡ self.now.trail }
         ensures sound { IsSound self.now }
     {
-        self.learner.steps()
+        self.search.steps()
     }
 
     /// How many clauses there are.
@@ -124,14 +125,14 @@ impl<T: Theory> Search<T> {
         ensures count { result ≡ length self.now.clauses }
         ensures few { result ≤ most_clauses }
     {
-        self.learner.count()
+        self.search.count()
     }
 
     /// The clause of a number: those of the ground problem first, then the added ones in their order.
     pub fn clause(&self, k: u32) -> Option<&Clause>
         ensures { option_copied result ≡ slice_get self.now.clauses k }
     {
-        self.learner.clause(k)
+        self.search.clause(k)
     }
 
     /// Adds what follows by units to the trail, up to a clause that is false; where there is none, asks the theory,
@@ -149,60 +150,60 @@ impl<T: Theory> Search<T> {
         ensures few { OnOk result (length self.new.clauses ≤ most_clauses) }
         ensures err { OnErr result (self.new ≡ self.old) }
     {
-        let before = self.learner.steps().len();
-        let conflict = self.learner.propagate();
+        let before = self.search.steps().len();
+        let conflict = self.search.propagate();
         if conflict.is_some() {
             return Ok(conflict);
         }
-        tell(&self.learner, &mut self.theory);
-        match refute(alloc, &mut self.learner, &self.theory) {
+        tell(&self.search, &mut self.theory);
+        match refute(alloc, &mut self.search, &self.theory) {
             Ok(answer) => Ok(answer),
             Err(error) => {
-                self.learner.retract(before);
+                self.search.retract(before);
                 self.theory.undo_to(before as u32);
                 Err(error)
             }
         }
     }
 
-    // Opens a level with an atom that has no truth. The theory says which truth is tried first.
+    // Opens a level with an atom that has no truth, made false.
     fn open(&mut self, atom: Atom) -> Lit
         requires settled { IsSettled self.old }
         requires consistent { IsConsistentWith T.valid self.old }
         requires range { IsInRange self.old.sizes atom }
         requires free { IsFree self.old.trail atom }
-        ensures atom { result.atom ≡ atom }
+        ensures lit { result ≡ negative atom }
         ensures opens { OpensLevel self.old result self.new }
     {
         let lit = Lit {
             atom,
-            positive: self.theory.prefers(atom),
+            positive: false,
         };
-        self.learner.assume(lit);
+        self.search.assume(lit);
         lit
     }
 
-    /// Opens a level with an atom that has no truth, if there is one. The theory says which truth is tried first.
+    /// Opens a level with the first atom by its number that has no truth, made false, if there is one.
     pub fn decide(&mut self) -> Option<Lit>
         requires settled { IsSettled self.old }
         requires consistent { IsConsistentWith T.valid self.old }
         ensures none { IfNone result ((self.new ≡ self.old) × AllHaveTruth self.old.sizes self.old.trail) }
         ensures some { IfSome result (λ lit. OpensLevel self.old lit self.new) }
     {
-        let atom = self.learner.next_free()?;
+        let atom = self.search.next_free()?;
         Some(self.open(atom))
     }
 
-    /// Opens a level with an atom of a clause that has no truth, if there is one. The theory says which truth is tried
-    /// first.
+    /// Opens a level with an atom, made false, that has no truth, of the first clause that has one and no true literal,
+    /// if there is such a clause.
     pub fn decide_needed(&mut self) -> Option<Lit>
         requires settled { IsSettled self.old }
         requires consistent { IsConsistentWith T.valid self.old }
-        ensures none { IfNone result ((self.new ≡ self.old) × AreAssigned self.old) }
+        ensures none { IfNone result ((self.new ≡ self.old) × AreSatisfied self.old) }
         ensures some { IfSome result (λ lit. OpensLevel self.old lit self.new) }
         ensures occurs { IfSome result (λ lit. OccursIn self.old.clauses lit.atom) }
     {
-        let atom = self.learner.next_needed()?;
+        let atom = self.search.next_needed()?;
         Some(self.open(atom))
     }
 
@@ -217,7 +218,7 @@ impl<T: Theory> Search<T> {
         ensures reasons { IfOk result (λ l. AreReasons self.old.clauses l.reasons.items l.clause) }
         ensures err { OnErr result (self.new ≡ self.old) }
     {
-        self.learner.learn(alloc, k)
+        self.search.learn(alloc, k)
     }
 
     /// Where a clause is false at level 0, numbers of clauses that, taken as hints in this order, show the empty
@@ -228,7 +229,7 @@ impl<T: Theory> Search<T> {
         ensures reasons { IfOk result (λ v. AreReasons self.old.clauses v.items []) }
         ensures same { self.new ≡ self.old }
     {
-        self.learner.refutation(alloc, k)
+        self.search.refutation(alloc, k)
     }
 
     /// Cuts the trail to a level.
@@ -236,8 +237,8 @@ impl<T: Theory> Search<T> {
         requires { level ≤ length self.old.starts }
         ensures { self.new ≡ cut self.old level }
     {
-        self.learner.backjump(level);
-        let length = self.learner.steps().len() as u32;
+        self.search.backjump(level);
+        let length = self.search.steps().len() as u32;
         if self.theory.mark() > length {
             self.theory.undo_to(length);
         }
@@ -251,8 +252,8 @@ impl<T: Theory> Search<T> {
         ensures few { OnOk result (length self.new.clauses ≤ most_clauses) }
         ensures err { OnErr result (self.new ≡ self.old) }
     {
-        self.learner.add(clause)?;
-        let length = self.learner.steps().len() as u32;
+        self.search.add(clause)?;
+        let length = self.search.steps().len() as u32;
         if self.theory.mark() > length {
             self.theory.undo_to(length);
         }

@@ -6,7 +6,7 @@ ghost use Rattle.gh_base.specs.declared.sizes.Sizes.{Sizes};
 ghost use Rattle.gh_base.specs.Atoms.{IsInRange};
 ghost use Rattle.gh_sat.specs.Theory.{HasNoLit, RefutesOne, HasNoRefuted};
 
-use gh_base::atom::{Atom, Lit};
+use gh_base::atom::Lit;
 use gh_base::clause::Clause;
 use std::alloc::{AllocError, Global};
 
@@ -40,14 +40,6 @@ pub trait Theory: Drop {
         requires { mark ≤ length (asserted self.old) }
         ensures asserted { asserted self.new ≡ take mark (asserted self.old) }
         ensures sizes { sizes self.new ≡ sizes self.old };
-
-    /// The truth that is tried first for an atom that has none: false, where a theory knows no better. No contract
-    /// rests on it.
-    fn prefers(&self, atom: Atom) -> bool
-        requires in_range { IsInRange (sizes self.now) atom }
-    {
-        false
-    }
 
     /// A clause of the theory that is false under what is asserted, if there is one.
     fn conflict(&self, alloc: Global) -> Result<Option<Clause>, AllocError>

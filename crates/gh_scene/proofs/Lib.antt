@@ -1,4 +1,3 @@
 pub mod Leaving
 pub mod Rowing
 pub mod Sketching
-pub mod First

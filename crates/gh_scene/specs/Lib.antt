@@ -2,5 +2,5 @@ pub mod Roles
 pub mod Spare
 pub mod Rows
 pub mod Sketches
-pub mod Smallests
+pub mod Sought
 pub mod Picturing

@@ -35,7 +35,8 @@ aside None = finite.empty
 aside (Some e) = e.frame
 
 -- the row of a state under a statement and a note, given the state before, what was left aside, and what is left over
-pub record IsRowUnder (statement note : List ℕ) (old : State) (apart spare : Heap) (new : State) (row : Row) : Type 0 where
+pub record IsRowUnder (statement note : List ℕ) (old : State) (apart spare : Heap) (new : State)
+    (row : Row) : Type 0 where
   pub statement_is : row.statement ≡ statement
   pub note_is : row.note ≡ note
   pub state_is : row.state ≡ new
@@ -43,7 +44,8 @@ pub record IsRowUnder (statement note : List ℕ) (old : State) (apart spare : H
   pub changes_are : row.changes.items ≡ changes_of (store_of old.store) new.store
 
 -- the row of the state y, to which a step of the procedure proc leads from x
-pub record IsRowOf (P : Program) (proc : Procedure) (s : PathStep) (x y : State) (spare : Heap) (row : Row) : Type 0 where
+pub record IsRowOf (P : Program) (proc : Procedure) (s : PathStep) (x y : State) (spare : Heap)
+    (row : Row) : Type 0 where
   pub exchange : Option Exchange
   pub handed : IsHandedOr P proc s (state_of x) (state_of y) exchange
   pub is : IsRowUnder (statement_text P proc s) (note_text exchange) x (aside exchange) spare y row
@@ -63,10 +65,12 @@ AreRows P proc [] xs spare rows = rows ≡ []
 AreRows P proc (s ∷ ss) [] spare rows = rows ≡ []
 AreRows P proc (s ∷ ss) (x ∷ []) spare rows = rows ≡ []
 AreRows P proc (s ∷ ss) (x ∷ y ∷ ys) spare rows =
-    (r : Row) × (rs : List Row) × (rows ≡ r ∷ rs) × IsRowOf P proc s x y (left_at_end ys spare) r × AreRows P proc ss (y ∷ ys) spare rs
+    (r : Row) × (rs : List Row) × (rows ≡ r ∷ rs) × IsRowOf P proc s x y (left_at_end ys spare) r
+    × AreRows P proc ss (y ∷ ys) spare rs
 
 -- a row for each state after the first is added
-pub record AddsRows (P : Program) (proc : Procedure) (ss : List PathStep) (xs : List State) (spare : Heap) (old new : List Row) : Type 0 where
+pub record AddsRows (P : Program) (proc : Procedure) (ss : List PathStep) (xs : List State) (spare : Heap)
+    (old new : List Row) : Type 0 where
   pub rest : List Row
   pub whole : new ≡ old ++ rest
   pub rows : AreRows P proc ss xs spare rest
@@ -77,4 +81,5 @@ IsRowFor setting step x y spare row = IsRowOf (whole setting) (here setting) (st
 
 -- the rows of the states that kept steps lead to are added
 abbrev pub AddsRowsFor : Setting → List kept.PathStep → List State → Heap → List Row → List Row → Type 0
-AddsRowsFor setting steps xs spare old new = AddsRows (whole setting) (here setting) (map step_of steps) xs spare old new
+AddsRowsFor setting steps xs spare old new =
+    AddsRows (whole setting) (here setting) (map step_of steps) xs spare old new

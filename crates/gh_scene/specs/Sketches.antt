@@ -14,7 +14,7 @@ use Rattle.gh_scene.specs.Rows.{IsStartRow, left_at_end, AreRows}
 use Rattle.gh_scene.specs.Spare.{IsSpare}
 use Rattle.gh_trace.specs.declared.state.State.{State}
 use Rattle.gh_trace.specs.Kept.{state_of, drawn}
-use Rattle.gh_trace.specs.Replay.{Refutes, FirstFailure}
+use Rattle.gh_trace.specs.Replay.{IsDrawnCounterexample, FirstFailure}
 use Rattle.gh_trace.specs.Traces.{last_state}
 
 -- the description of the condition, the row of the first state, and a row for each later one
@@ -39,7 +39,7 @@ pub record IsSceneOf (P : Program) (c : Condition) (xs : List State) (scene : Sc
   pub first : State
   pub others : List State
   pub states : xs ≡ first ∷ others
-  pub refutes : Refutes P c (map drawn xs)
+  pub refutes : IsDrawnCounterexample P c (map drawn xs)
   pub shows : IsSceneOver P c first others scene
 
 -- a scene of states for the condition of a number, or their first failure, or that there is no such condition

@@ -6,5 +6,5 @@ pub mod pictured;
 pub mod roles;
 mod rows;
 pub mod sketch;
-pub mod smallest;
+pub mod sought;
 mod spare;

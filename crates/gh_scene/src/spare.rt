@@ -1,7 +1,7 @@
 // What is left over where the check at the end of a path fails.
 
 ghost use Rattle.std.specs.Prelude.{map, IfOk};
-ghost use Rattle.gh_ast.specs.Plain.{formula_of};
+ghost use Rattle.gh_ast.specs.Plain.{assertion_of};
 ghost use Rattle.gh_assert.specs.Stores.{store_of};
 ghost use Rattle.gh_trace.specs.Settings.{HasLoops};
 ghost use Rattle.gh_scene.specs.Spare as told;
@@ -23,8 +23,8 @@ fn left_by(
     heap: &Heap,
     assertion: &Assertion,
 ) -> Result<Option<Heap>, AllocError>
-    ensures some { IfOk result (told.IsLeft (formula_of assertion.now) (store_of store.now) heap.now) }
-    ensures none { IfOk result (told.IsNoneLeft (formula_of assertion.now) (store_of store.now) heap.now) }
+    ensures some { IfOk result (told.IsLeft (assertion_of assertion.now) (store_of store.now) heap.now) }
+    ensures none { IfOk result (told.IsNoneLeft (assertion_of assertion.now) (store_of store.now) heap.now) }
 {
     match taken(alloc, store, heap, conjuncts(assertion))? {
         Taking::Whole { rest } => Ok(Some(rest)),
@@ -40,7 +40,7 @@ pub fn left_over(
     heap: &Heap,
     alternatives: &[Assertion],
 ) -> Result<Heap, AllocError>
-    ensures { IfOk result (told.IsLeftOver (map formula_of alternatives.now) (store_of store.now) heap.now) }
+    ensures { IfOk result (told.IsLeftOver (map assertion_of alternatives.now) (store_of store.now) heap.now) }
 {
     for alternative in alternatives {
         if let Some(rest) = left_by(alloc, store, heap, alternative)? {
@@ -58,7 +58,7 @@ fn left_of_round(
     state: &State,
 ) -> Result<Heap, AllocError>
     requires { HasLoops setting }
-    ensures { IfOk result (told.IsSpareOfRound setting.entry number state.now) }
+    ensures { IfOk result (told.IsSpareOfLoop setting.entry number state.now) }
 {
     match setting.round(number) {
         Some(round) => left_over(alloc, &state.store, &state.heap, from_ref(round.invariant)),

@@ -68,14 +68,6 @@ impl Theory for Apart {
         self.asserted.undo_to(mark);
     }
 
-    // The last definition is tried true first, each other atom false.
-    fn prefers(&self, atom: Atom) -> bool {
-        match atom {
-            Atom::Def { number } => number == self.asserted.sizes().defs - 1,
-            _ => false,
-        }
-    }
-
     fn conflict(&self, alloc: Global) -> Result<Option<Clause>, AllocError> {
         let defs = self.asserted.sizes().defs;
         let lits = self.asserted.lits();

@@ -79,17 +79,6 @@ fn undo(classes: &mut Classes, mark: u32) {
     }
 }
 
-// The truth of an atom that is in range; of an equality only whether it is true.
-fn truth_of(classes: &Classes, atom: Atom) -> Option<bool> {
-    if !classes.sizes().has(atom) {
-        return None;
-    }
-    match atom {
-        Atom::Eq { a, b } => { if classes.same(a, b) { Some(true) } else { None } }
-        _ => classes.truth_of(atom),
-    }
-}
-
 // How many literals a conflict has, or 0 where none stands.
 fn conflict_size(global: Global, classes: &Classes) -> Result<usize, AllocError> {
     match classes.conflict(global)? {
@@ -120,8 +109,6 @@ enum Step {
     Size(usize),
     // whether two terms are equal
     Same(u8, u8, bool),
-    // an atom's truth, but for false equalities
-    Truth(Plain, Option<bool>),
 }
 
 fn is_done(global: Global, classes: &mut Classes, step: Step) -> Result<bool, AllocError> {
@@ -134,7 +121,6 @@ fn is_done(global: Global, classes: &mut Classes, step: Step) -> Result<bool, Al
         Step::Contrary(wanted) => is_contrary(global, classes)? == wanted,
         Step::Size(size) => conflict_size(global, classes)? == size,
         Step::Same(a, b, wanted) => classes.same(Term(a), Term(b)) == wanted,
-        Step::Truth(plain, wanted) => truth_of(classes, atom_of(plain)) == wanted,
     })
 }
 
@@ -402,32 +388,6 @@ const UNDONE: &[Step] = &[
 #[test]
 fn undone_and_asserted_again(rt: HostRuntime) -> Result<(), AllocError> {
     assert!(rt; hold(rt.alloc(), Setting::Nothing, Rows::Steps(UNDONE))?);
-    Ok(())
-}
-
-const TRUTHS: &[Step] = &[
-    Step::Assert(&[
-        (Hop(1, 0), true),
-        (Hop(2, 0), false),
-        (Eq(1, 3), true),
-        (Alloc(1, 1), false),
-        (Def(0), true),
-    ]),
-    Step::Size(0),
-    Step::Truth(Eq(1, 3), Some(true)),
-    Step::Truth(Eq(2, 2), Some(true)),
-    Step::Truth(Eq(0, 4), None),
-    Step::Truth(Hop(3, 0), Some(true)),
-    Step::Truth(Hop(2, 0), Some(false)),
-    Step::Truth(Alloc(1, 3), Some(false)),
-    Step::Truth(Alloc(0, 3), None),
-    Step::Truth(Def(0), Some(true)),
-    Step::Truth(Def(1), None),
-];
-
-#[test]
-fn truths(rt: HostRuntime) -> Result<(), AllocError> {
-    assert!(rt; hold(rt.alloc(), Setting::Nothing, Rows::Steps(TRUTHS))?);
     Ok(())
 }
 

@@ -5,7 +5,7 @@ use crate::problems::named;
 use crate::turns::next_lesson;
 use gh_base::atom::Lit;
 use gh_base::clause::Clause;
-use gh_sat::learner::Learnt;
+use gh_sat::clause_search::Learnt;
 use gh_sat::search::Search;
 use gh_sat::trail::Step;
 use std::alloc::{AllocError, Global};

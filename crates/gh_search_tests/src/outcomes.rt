@@ -3,8 +3,8 @@
 use crate::apart::Apart;
 use crate::lessons::{Lesson, is_learnt, is_shown};
 use crate::problems::{Problem, are_in_range, clause_of, empty, push_problem};
-use crate::turns::{decided, is_satisfiable, next_conflict, next_lesson};
-use gh_base::atom::{Atom, Lit};
+use crate::turns::{decided, is_satisfiable, next_conflict};
+use gh_base::atom::Lit;
 use gh_base::clause::Clause;
 use gh_base::ground::Ground;
 use gh_sat::search::Search;
@@ -62,35 +62,6 @@ fn are_decided(
     Ok(stand(search.steps(), wanted))
 }
 
-// Whether what is decided first at level 0 is a definition, if anything is.
-fn decides_definition(
-    alloc: Global,
-    search: &mut Search<Apart>,
-) -> Result<Option<bool>, AllocError> {
-    search.backjump(0);
-    if search.propagate(alloc)?.is_some() {
-        return Ok(None);
-    }
-    Ok(match search.decide() {
-        None => None,
-        Some(lit) => Some(matches!(lit.atom, Atom::Def { .. })),
-    })
-}
-
-// The same after so many lessons.
-fn decides_after(
-    alloc: Global,
-    search: &mut Search<Apart>,
-    lessons: u32,
-) -> Result<Option<bool>, AllocError> {
-    for _lesson in 0..lessons {
-        if next_lesson(alloc, search)?.is_none() {
-            return Ok(None);
-        }
-    }
-    decides_definition(alloc, search)
-}
-
 // Adds a clause, if its atoms are in range, and says whether they are.
 fn add(search: &mut Search<Apart>, clause: Clause) -> Result<bool, AllocError> {
     let is_in_range = are_in_range(search.assignment().sizes(), clause.lits());
@@ -119,14 +90,12 @@ fn level_with(
 pub(crate) enum Outcome {
     // whether some assignment makes each clause true
     Satisfiable(bool),
-    // so many decisions before each atom of a clause has a truth
+    // so many decisions before each clause has a true literal
     Needed(u32),
     // a refutation, maybe of so many clauses
     Refuted(Option<usize>),
     // the first lesson
     Learnt(&'static Lesson),
-    // whether after so many lessons a definition is decided first
-    Definition(u32, bool),
     // literals at places of the trail
     Trail(&'static [(usize, Lit)]),
     // after a clause by name is added, the level and whether a clause is false
@@ -143,9 +112,6 @@ fn comes_to(
         Outcome::Needed(count) => Ok(decided(alloc, search)? == Some(count)),
         Outcome::Refuted(count) => is_refuted(alloc, search, count),
         Outcome::Learnt(lesson) => is_learnt(alloc, search, lesson),
-        Outcome::Definition(lessons, wanted) => {
-            Ok(decides_after(alloc, search, lessons)? == Some(wanted))
-        }
         Outcome::Trail(wanted) => are_decided(alloc, search, wanted),
         Outcome::Added(names, level, is_false) => {
             Ok(level_with(alloc, search, names)? == Some((level, is_false)))

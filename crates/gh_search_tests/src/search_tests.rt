@@ -33,7 +33,7 @@ fn satisfiable(rt: HostRuntime) -> Result<(), AllocError> {
     Ok(())
 }
 
-// Clauses by name over thirty definitions, and how many decisions come before each of their atoms has a truth.
+// Clauses by name over thirty definitions, and how many decisions come before each has a true literal.
 type Needed = (&'static [&'static [i32]], u32);
 
 // Atoms that stand in no clause are never decided: none of thirty, and of one clause none but its own.
@@ -99,8 +99,8 @@ fn many_pairs(rt: HostRuntime) -> Result<(), AllocError> {
     Ok(())
 }
 
-// With few conflicts the order is fixed: the equality and the three atoms with a version are decided first, at levels 1
-// to 4, then the definitions from the first on, each made false.
+// Atoms are decided by number: the equality and the three atoms with a version first, at levels 1 to 4, then the
+// definitions from the first on, each made false.
 const LESSONS: &[Lesson] = &[
     Lesson {
         defs: 4,
@@ -153,19 +153,6 @@ fn lessons(rt: HostRuntime) -> Result<(), AllocError> {
     Ok(())
 }
 
-// How many lessons there were, and whether a definition is decided first then. The first decision is of the equality
-// of the one term with itself; after fifty conflicts it is of a definition, since these alone stood in conflicts.
-const ACTIVITIES: &[(u32, bool)] = &[(0, false), (10, false), (60, true)];
-
-#[test]
-fn activities(rt: HostRuntime) -> Result<(), AllocError> {
-    for (lessons, wanted) in ACTIVITIES {
-        let outcome = Outcome::Definition(*lessons, *wanted);
-        assert!(rt; is_so(rt.alloc(), Problem::Pigeons(7, 6), outcome)?);
-    }
-    Ok(())
-}
-
 const DECISIONS: &[(usize, Lit)] = &[
     (
         0,
@@ -200,6 +187,19 @@ const DECISIONS: &[(usize, Lit)] = &[
     (
         3,
         Lit {
+            atom: Atom::Btwn {
+                version: 0,
+                x: Term(0),
+                y: Term(0),
+                z: Term(0),
+            },
+            positive: false,
+        },
+    ),
+    // after it seven more of segments, four atoms of contents and one of a cell
+    (
+        16,
+        Lit {
             atom: Atom::Alloc {
                 version: 0,
                 x: Term(1),
@@ -207,17 +207,6 @@ const DECISIONS: &[(usize, Lit)] = &[
             positive: false,
         },
     ),
-    (
-        4,
-        Lit {
-            atom: Atom::Alloc {
-                version: 0,
-                x: Term(0),
-            },
-            positive: false,
-        },
-    ),
-    // after them four atoms of contents and eight of segments
     (
         17,
         Lit {
@@ -229,7 +218,7 @@ const DECISIONS: &[(usize, Lit)] = &[
         18,
         Lit {
             atom: Atom::Def { number: 1 },
-            positive: true,
+            positive: false,
         },
     ),
 ];

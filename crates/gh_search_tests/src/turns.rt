@@ -8,7 +8,7 @@ ghost use Rattle.gh_sat.specs.Theory.{IsConsistentWith};
 ghost use Rattle.gh_sat.specs.Trail.{IsSound};
 
 use crate::apart::Apart;
-use gh_sat::learner::Learnt;
+use gh_sat::clause_search::Learnt;
 use gh_sat::search::Search;
 use gh_sat::theory::Theory;
 use std::alloc::{AllocError, Global};
@@ -95,7 +95,7 @@ pub(crate) fn is_satisfiable<T: Theory>(
     Ok(answer.is_none())
 }
 
-// How many decisions come before each atom of each clause has a truth, where no clause is false on the way.
+// How many decisions come before each clause has a true literal, where no clause is false on the way.
 pub(crate) fn decided(
     alloc: Global,
     search: &mut Search<Apart>,

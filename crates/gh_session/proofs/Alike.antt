@@ -14,7 +14,8 @@ use Rattle.gh_path.proofs.LoopVariables.{loop_is_over}
 use Rattle.gh_path.proofs.Numbers.{numbers_are_there, each_is_there}
 use Rattle.gh_trace.specs.Traces.{State, Counterexample, IsTrace, last_state}
 use Rattle.gh_trace.specs.Validity.{AreCounterexample}
-use Rattle.gh_session.specs.Essences.{Essence, essence, callees_in, callees_at, loops_from, loops_in, loops_at, procedures_of, rounds_of}
+use Rattle.gh_session.specs.Essences.{Essence, essence, callees_in, callees_at, loops_from, loops_in, loops_at}
+use Rattle.gh_session.specs.Essences.{procedures_of, loops_met}
 use Rattle.gh_session.specs.Meaning as of
 use Rattle.gh_session.specs.Laws.{HaveOneEssence, Decides, EssencesDecide, SameCounterexamples}
 use Rattle.gh_session.proofs.Placing.{listed_keeps, listed_has}
@@ -23,12 +24,13 @@ use Rattle.gh_session.proofs.Deciding.{Knows, knows, traces, SamePasses, passes,
 one_procedure : (P : Program) (c : Condition) (proc q : Procedure) → IsOf P c proc → IsOf P c q → proc ≡ q
 one_procedure P c proc q = one_value (slice_get P.procedures c.procedure) proc q
 
-module _ (P : Program) (c : Condition) (proc : Procedure) (typed : IsTyped P) (of_p : IsOf P c proc) (there : IsThere P proc c) where
+module _ (P : Program) (c : Condition) (proc : Procedure) (typed : IsTyped P) (of_p : IsOf P c proc)
+    (there : IsThere P proc c) where
   abbrev pub ps : List ℕ
   ps = procedures_of c
 
   abbrev pub ls : List ℕ
-  ls = rounds_of c
+  ls = loops_met c
 
   abbrev pub E : Essence
   E = essence P proc c
@@ -43,13 +45,20 @@ module _ (P : Program) (c : Condition) (proc : Procedure) (typed : IsTyped P) (o
   in_ls n has = listed_has (loops_from c.start) (flat_map loops_in c.way.steps ++ loops_at c.way.check) n has
 
   declared : Contains P.procedures proc
-  declared = (c.procedure, slice_get_within P.procedures c.procedure proc of_p, get_or_from_slice_get P.procedures c.procedure proc proc of_p)
+  declared = (
+    c.procedure,
+    slice_get_within P.procedures c.procedure proc of_p,
+    get_or_from_slice_get P.procedures c.procedure proc proc of_p,
+  )
 
   begins : (x : State) → SameStarts proc E ls x c.start
-  begins x = starts P proc ps ls E K x c.start there.start (λ n has. listed_keeps (loops_from c.start) (flat_map loops_in c.way.steps ++ loops_at c.way.check) n has)
+  begins x =
+      starts P proc ps ls E K x c.start there.start
+      (λ n has. listed_keeps (loops_from c.start) (flat_map loops_in c.way.steps ++ loops_at c.way.check) n has)
 
   leads : (x : State) (ys : List State) → IsTrace P proc x c.way.steps ys ↔ of.IsTrace E x E.steps ys
-  leads x ys = traces P proc ps ls E K (loop_is_over P typed proc declared) c.way.steps x ys (each_is_there P proc c there)
+  leads x ys =
+      traces P proc ps ls E K (loop_is_over P typed proc declared) c.way.steps x ys (each_is_there P proc c there)
       (λ n has. in_ps n (Contains-append_left (flat_map callees_in c.way.steps) (callees_at c.way.check) n has))
       (λ n has. in_ls n (Contains-append_left (flat_map loops_in c.way.steps) (loops_at c.way.check) n has))
 
@@ -58,15 +67,26 @@ module _ (P : Program) (c : Condition) (proc : Procedure) (typed : IsTyped P) (o
       (λ n has. in_ps n (Contains-append_right (flat_map callees_in c.way.steps) (callees_at c.way.check) n has))
       (λ n has. in_ls n (Contains-append_right (flat_map loops_in c.way.steps) (loops_at c.way.check) n has))
 
-  both : (x : State) (ys : List State) → Counterexample P proc (meets_at proc c.start) c.way.steps c.way.check x ys ↔ of.Counterexample E x ys
+  both : (x : State) (ys : List State)
+      → Counterexample P proc (meets_at proc c.start) c.way.steps c.way.check x ys ↔ of.Counterexample E x ys
   both x ys = (
-    λ w. record { begins = (begins x).0 w.begins; leads = (leads x ys).0 w.leads; fails = λ passed. w.fails ((ends (last_state x ys)).1 passed) },
-    λ w. record { begins = (begins x).1 w.begins; leads = (leads x ys).1 w.leads; fails = λ passed. w.fails ((ends (last_state x ys)).0 passed) },
+    λ w. record {
+      begins = (begins x).0 w.begins;
+      leads = (leads x ys).0 w.leads;
+      fails = λ passed. w.fails ((ends (last_state x ys)).1 passed);
+    },
+    λ w. record {
+      begins = (begins x).1 w.begins;
+      leads = (leads x ys).1 w.leads;
+      fails = λ passed. w.fails ((ends (last_state x ys)).0 passed);
+    },
   )
 
   -- whatever procedure it is said of, it is proc
   here : (x : State) (ys : List State) → AreCounterexample P c (x ∷ ys) → of.Counterexample E x ys
-  here x ys (q, of_q, w) = (both x ys).0 (subst (λ r. Counterexample P r (meets_at r c.start) c.way.steps c.way.check x ys) (one_procedure P c q proc of_q of_p) w)
+  here x ys (q, of_q, w) =
+      (both x ys).0 (subst (λ r. Counterexample P r (meets_at r c.start) c.way.steps c.way.check x ys)
+      (one_procedure P c q proc of_q of_p) w)
 
   pub decided : Decides P c E
   decided = record {
@@ -98,7 +118,8 @@ module _ (P : Program) (c : Condition) (proc : Procedure) (typed : IsTyped P) (o
 pub essences_decide : EssencesDecide
 essences_decide P c E e =
     subst (Decides P c) e.is
-    (decided P c e.procedure e.typed e.of (numbers_are_there P c e.procedure e.typed ((all_are_listed P c).0 e.one) e.of))
+    (decided P c e.procedure e.typed e.of
+    (numbers_are_there P c e.procedure e.typed ((all_are_listed P c).0 e.one) e.of))
 
 pub same_counterexamples : SameCounterexamples
 same_counterexamples P Q c d E e f =
@@ -111,4 +132,5 @@ same_counterexamples P Q c d E e f =
     }
 
 pub have_one_essence : HaveOneEssence
-have_one_essence P c E F a b = sym a.is ∙ ap (λ proc. essence P proc c) (one_procedure P c a.procedure b.procedure a.of b.of) ∙ b.is
+have_one_essence P c E F a b =
+    sym a.is ∙ ap (λ proc. essence P proc c) (one_procedure P c a.procedure b.procedure a.of b.of) ∙ b.is

@@ -9,7 +9,8 @@ pub data IsOrder {X : Type 0} (b c : List X) (x y : X) : Type 0 where
 
 ordered_on : {X : Type 0} {b c : List X} {x y : X} (k l : X) → k ≡ l → IsOrder b c x y → IsOrder (k ∷ b) (l ∷ c) x y
 ordered_on {c = c} k l e (one_place f g) = one_place (ap (λ z. k ∷ z) f ∙ ap (λ z. z ∷ c) e) g
-ordered_on {b = b} {x = x} k l e (left_first d f) = left_first d (ap (λ z. l ∷ z) f ∙ ap (λ z. z ∷ (b ++ x ∷ d)) (sym e))
+ordered_on {b = b} {x = x} k l e (left_first d f) =
+    left_first d (ap (λ z. l ∷ z) f ∙ ap (λ z. z ∷ (b ++ x ∷ d)) (sym e))
 ordered_on {c = c} {y = y} k l e (right_first d f) = right_first d (ap (λ z. k ∷ z) f ∙ ap (λ z. z ∷ (c ++ y ∷ d)) e)
 
 pub ordered : {X : Type 0} (b c after rest : List X) (x y : X) → b ++ x ∷ after ≡ c ++ y ∷ rest → IsOrder b c x y

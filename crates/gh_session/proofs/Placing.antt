@@ -25,7 +25,8 @@ has n (m ∷ ms) e = elim (either_holds (n == m) (list_any (λ m. n == m) ms) e)
 added_has : (ns : List ℕ) (n : ℕ) → Contains (added ns n) n
 added_has ns n = elim (cases_Bool (list_any (λ m. n == m) ns)) [
   | inl held ↦ subst (λ b. Contains (cond b ns (ns ++ n ∷ [])) n) (sym held) (has n ns held)
-  | inr off ↦ subst (λ b. Contains (cond b ns (ns ++ n ∷ [])) n) (sym off) (Contains-append_right ns (n ∷ []) n (member_first n []))
+  | inr off ↦ subst (λ b. Contains (cond b ns (ns ++ n ∷ [])) n) (sym off)
+      (Contains-append_right ns (n ∷ []) n (member_first n []))
 ]
 
 added_keeps : (ns : List ℕ) (n m : ℕ) → Contains ns m → Contains (added ns n) m
@@ -61,11 +62,13 @@ front k ns (m ∷ ms) is = front k (added ns m) ms (front_added k ns m is)
 pub at_place : (n : ℕ) (ns : List ℕ) → Contains ns n → slice_get ns (place n ns) ≡ Some n
 at_place n [] there = absurd (no_member n there)
 at_place n (m ∷ ms) there = elim (cases_Bool (n == m)) [
-  | inl held ↦ subst (λ b. slice_get (m ∷ ms) (cond b 0 (suc (place n ms))) ≡ Some n) (sym held) (ap Some (sym (test n m held)))
-  | inr off ↦ subst (λ b. slice_get (m ∷ ms) (cond b 0 (suc (place n ms))) ≡ Some n) (sym off) (elim (member_cases m ms n there) [
-    | inl same ↦ absurd (false≢true (sym off ∙ tested n m (sym same)))
-    | inr more ↦ at_place n ms more
-  ])
+  | inl held ↦ subst (λ b. slice_get (m ∷ ms) (cond b 0 (suc (place n ms))) ≡ Some n) (sym held)
+      (ap Some (sym (test n m held)))
+  | inr off ↦ subst (λ b. slice_get (m ∷ ms) (cond b 0 (suc (place n ms))) ≡ Some n) (sym off)
+      (elim (member_cases m ms n there) [
+        | inl same ↦ absurd (false≢true (sym off ∙ tested n m (sym same)))
+        | inr more ↦ at_place n ms more
+      ])
 ]
 
 -- what is added in two parts is added at once
@@ -73,7 +76,10 @@ pub listed_append : (ns ms ks : List ℕ) → listed (listed ns ms) ks ≡ liste
 listed_append ns [] ks = refl
 listed_append ns (m ∷ ms) ks = listed_append (added ns m) ms ks
 
-pub turn : {X : Type 0} (f : X → List ℕ) (xs : List X) (x : X) (rest : List X) (last ns ms whole : List ℕ) → xs ≡ x ∷ rest → ms ≡ listed ns (f x) → listed ns (flat_map f xs ++ last) ≡ whole → listed ms (flat_map f rest ++ last) ≡ whole
+pub turn : {X : Type 0} (f : X → List ℕ) (xs : List X) (x : X) (rest : List X) (last ns ms whole : List ℕ)
+    → xs ≡ x ∷ rest → ms ≡ listed ns (f x) → listed ns (flat_map f xs ++ last) ≡ whole
+    → listed ms (flat_map f rest ++ last) ≡ whole
 turn f xs x rest last ns ms whole is added' before =
     ap (λ ks. listed ks (flat_map f rest ++ last)) added' ∙ listed_append ns (f x) (flat_map f rest ++ last)
-    ∙ ap (listed ns) (sym (append_assoc (f x) (flat_map f rest) last)) ∙ ap (λ ys. listed ns (flat_map f ys ++ last)) (sym is) ∙ before
+    ∙ ap (listed ns) (sym (append_assoc (f x) (flat_map f rest) last))
+    ∙ ap (λ ys. listed ns (flat_map f ys ++ last)) (sym is) ∙ before

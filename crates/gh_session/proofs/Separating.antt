@@ -41,7 +41,8 @@ no_bytes line none = record {
     no_end : (xs : List ℕ) → length line ≡ length xs + 1 → ⊥
     no_end xs e = absurd (omega (arith, e, none))
 
-pub begins : (xs : List ℕ) (a : Bool) → 3 ≤ length xs → get_or xs 0 0 ≡ 37 → get_or xs 1 0 ≡ cond a 37 43 → get_or xs 2 0 ≡ 32 → xs ≡ separator a (drop 3 xs)
+pub begins : (xs : List ℕ) (a : Bool) → 3 ≤ length xs → get_or xs 0 0 ≡ 37 → get_or xs 1 0 ≡ cond a 37 43
+    → get_or xs 2 0 ≡ 32 → xs ≡ separator a (drop 3 xs)
 begins [] a long first sign blank = absurd (omega (arith, long))
 begins (x ∷ []) a long first sign blank = absurd (omega (arith, long))
 begins (x ∷ y ∷ []) a long first sign blank = absurd (omega (arith, long))
@@ -71,7 +72,8 @@ no_more asks n (x ∷ y ∷ z ∷ front) named e =
     let rest : n ≡ front ++ 10 ∷ [] = cc in
     no_feed n front named rest
 
-pub bare_is : (line bare : List ℕ) (asks : Bool) (n : Name) → IsBare line bare → IsSeparator line asks n → bare ≡ separator asks n
+pub bare_is : (line bare : List ℕ) (asks : Bool) (n : Name) → IsBare line bare → IsSeparator line asks n
+    → bare ≡ separator asks n
 bare_is line bare asks n b s = elim s.is [
   | inl without ↦ elim b.is [
     | inl same ↦ sym same ∙ without
@@ -80,7 +82,8 @@ bare_is line bare asks n b s = elim s.is [
   | inr with_feed ↦ sym (b.whole (separator asks n) with_feed)
 ]
 
-pub is_separator : (line bare : List ℕ) (asks : Bool) (n : Name) → IsBare line bare → bare ≡ separator asks (drop 3 bare) → n ≡ drop 3 bare → IsNameText (drop 3 bare) → IsSeparator line asks n
+pub is_separator : (line bare : List ℕ) (asks : Bool) (n : Name) → IsBare line bare
+    → bare ≡ separator asks (drop 3 bare) → n ≡ drop 3 bare → IsNameText (drop 3 bare) → IsSeparator line asks n
 is_separator line bare asks n b begun same named =
     let whole : bare ≡ separator asks n = begun ∙ ap (separator asks) (sym same) in
     record {
@@ -88,5 +91,6 @@ is_separator line bare asks n b begun same named =
       is = elim b.is [ inl plain ↦ inl (plain ∙ whole) | inr more ↦ inr (more ∙ ap (λ xs. xs ++ 10 ∷ []) whole) ];
     }
 
-pub no_name : (line bare : List ℕ) (asks : Bool) (n : Name) → IsBare line bare → (IsNameText (drop 3 bare) → ⊥) → IsSeparator line asks n → ⊥
+pub no_name : (line bare : List ℕ) (asks : Bool) (n : Name) → IsBare line bare → (IsNameText (drop 3 bare) → ⊥)
+    → IsSeparator line asks n → ⊥
 no_name line bare asks n b none s = none (subst IsNameText (sym (ap (drop 3) (bare_is line bare asks n b s))) s.name)

@@ -39,7 +39,8 @@ AreEssences P (c ∷ cs) (E ∷ Es) = HasEssence P c E × AreEssences P cs Es
 pub data AreNew : List Essence → List Essence → List Essence → Type 0 where
   none : {old : List Essence} → AreNew old [] []
   is_known : {old Es new : List Essence} {E : Essence} → Contains old E → AreNew old Es new → AreNew old (E ∷ Es) new
-  is_new : {old Es new : List Essence} {E : Essence} → (Contains old E → ⊥) → AreNew (old ++ E ∷ []) Es new → AreNew old (E ∷ Es) (E ∷ new)
+  is_new : {old Es new : List Essence} {E : Essence} → (Contains old E → ⊥) → AreNew (old ++ E ∷ []) Es new
+      → AreNew old (E ∷ Es) (E ∷ new)
 
 -- n essences of the conditions cs are new, and are known after what was known
 pub record Grows (P : Program) (cs : List Condition) (old : List Known) (n : ℕ) (new : List Known) : Type 0 where

@@ -35,7 +35,8 @@ AddsKnown old E answer false new = Contains (essences old) E × (new ≡ old)
 AddsKnown old E answer true new = (Contains (essences old) E → ⊥) × (new ≡ old ++ known E answer ∷ [])
 
 -- the same for the essence of the condition r of P
-pub record LearnsEssence (P : Program) (r : kept.Condition) (old : List Known) (answer : Option Trace) (added : Bool) (new : List Known) : Type 0 where
+pub record LearnsEssence (P : Program) (r : kept.Condition) (old : List Known) (answer : Option Trace) (added : Bool)
+    (new : List Known) : Type 0 where
   pub essence : Essence
   pub has : HasEssence P (condition_of r) essence
   pub adds : AddsKnown old essence answer added new

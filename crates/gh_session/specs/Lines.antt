@@ -51,7 +51,8 @@ pub record IsPiece (e : Edit) (ls : List (List ℕ)) : Type 0 where
 -- the lines of some pieces
 abbrev pub ArePieces : List Edit → List (List ℕ) → Type 0
 ArePieces [] ls = ls ≡ []
-ArePieces (e ∷ es) ls = (own : List (List ℕ)) × (more : List (List ℕ)) × (ls ≡ own ++ more) × IsPiece e own × ArePieces es more
+ArePieces (e ∷ es) ls =
+    (own : List (List ℕ)) × (more : List (List ℕ)) × (ls ≡ own ++ more) × IsPiece e own × ArePieces es more
 
 -- the lines of a head and of at most 256 pieces
 pub record AreSessionLines (head : List ℕ) (es : List Edit) (ls : List (List ℕ)) : Type 0 where
@@ -78,5 +79,7 @@ pub record IsLineAfter (text : List ℕ) (n : ℕ) (here : List ℕ) (es : List 
 -- the first line that is bad, or the separator after 256 pieces
 abbrev pub IsFirstBad : List ℕ → SessionError → Type 0
 IsFirstBad text (Line n) = (here : List ℕ) × (es : List Edit) × IsLineAfter text n here es × IsBad here
-IsFirstBad text (TooMany n) = (here : List ℕ) × (es : List Edit) × (asks : Bool) × (name : Name) × IsLineAfter text n here es × (length es ≡ 256) × IsSeparator here asks name
+IsFirstBad text (TooMany n) =
+    (here : List ℕ) × (es : List Edit) × (asks : Bool) × (name : Name) × IsLineAfter text n here es × (length es ≡ 256)
+    × IsSeparator here asks name
 IsFirstBad text OutOfMemory = Unit {0}

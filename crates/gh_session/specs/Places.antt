@@ -31,5 +31,6 @@ module _ {S : Type 0} where
 
   -- each essence is filed under its fingerprint at the place where it stands, and all answers are right
   pub record IsFiled (kept : List Kept) (table : hash.HashMap ℕ (Vec ℕ Global) S) : Type 0 where
-    pub places : (n : ℕ) (k : Kept) → slice_get kept n ≡ Some k → Contains (filed table (fingerprint (essence_view k.essence))) n
+    pub places : (n : ℕ) (k : Kept) → slice_get kept n ≡ Some k
+        → Contains (filed table (fingerprint (essence_view k.essence))) n
     pub right : AreRight (knowledge kept)

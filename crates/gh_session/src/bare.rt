@@ -1,8 +1,8 @@
 //! Copies in which every place is 1:1.
 
 ghost use Rattle.std.specs.Prelude.{◌≡◌, map, IfOk};
-ghost use Rattle.gh_ast.specs.Plain.{test_of, compare, formula_of, comparison, points_to, segment};
-ghost use Rattle.gh_ast.specs.Bare.{bare_occ, bare_operand, bare_expr, bare_test, bare_formula};
+ghost use Rattle.gh_ast.specs.Plain.{cond_of, compare, assertion_of, comparison, points_to, segment};
+ghost use Rattle.gh_ast.specs.Bare.{bare_occ, bare_operand, bare_expr, bare_cond, bare_assertion};
 ghost use Rattle.gh_ast.specs.Programs.{names};
 
 use gh_ast::{Assertion, Cond, Expr, Occ, Operand};
@@ -67,7 +67,7 @@ pub fn names(alloc: Global, occs: &[Occ]) -> Result<Vec<Name>, AllocError>
 
 // A comparison of a test at 1:1.
 fn compare(alloc: Global, left: &Expr, equal: bool, right: &Expr) -> Result<Cond, AllocError>
-    ensures { IfOk result (λ t. test_of t ≡ bare_test (compare left.now equal right.now)) }
+    ensures { IfOk result (λ t. cond_of t ≡ bare_cond (compare left.now equal right.now)) }
 {
     Ok(Cond::Compare {
         left: expr(alloc, left)?,
@@ -79,7 +79,7 @@ fn compare(alloc: Global, left: &Expr, equal: bool, right: &Expr) -> Result<Cond
 /// A test at 1:1.
 #[cycle(any_test)]
 fn test(alloc: Global, test: &Cond) -> Result<Cond, AllocError>
-    ensures { IfOk result (λ t. test_of t ≡ bare_test (test_of test.now)) }
+    ensures { IfOk result (λ t. cond_of t ≡ bare_cond (cond_of test.now)) }
 {
     match test {
         Cond::Compare { left, equal, right } => compare(alloc, left, *equal, right),
@@ -92,7 +92,7 @@ fn test(alloc: Global, test: &Cond) -> Result<Cond, AllocError>
 // A test at 1:1, in a box.
 #[cycle(any_test)]
 fn boxed_test(alloc: Global, whole: &Cond) -> Result<Box<Cond>, AllocError>
-    ensures { IfOk result (λ b. test_of b.value ≡ bare_test (test_of whole.now)) }
+    ensures { IfOk result (λ b. cond_of b.value ≡ bare_cond (cond_of whole.now)) }
 {
     Ok(Box::new(alloc, test(alloc, whole)?)?)
 }
@@ -100,7 +100,7 @@ fn boxed_test(alloc: Global, whole: &Cond) -> Result<Box<Cond>, AllocError>
 /// Some tests at 1:1.
 #[cycle(any_test)]
 fn tests(alloc: Global, members: &[Cond]) -> Result<Vec<Cond>, AllocError>
-    ensures { IfOk result (λ v. map test_of v.items ≡ map (λ t. bare_test (test_of t)) members.now) }
+    ensures { IfOk result (λ v. map cond_of v.items ≡ map (λ t. bare_cond (cond_of t)) members.now) }
 {
     let mut copies = Vec::new(alloc);
     for member in members {
@@ -116,7 +116,7 @@ fn comparison(
     equal: bool,
     right: &Operand,
 ) -> Result<Assertion, AllocError>
-    ensures { IfOk result (λ a. formula_of a ≡ bare_formula (comparison left.now equal right.now)) }
+    ensures { IfOk result (λ a. assertion_of a ≡ bare_assertion (comparison left.now equal right.now)) }
 {
     Ok(Assertion::Pure {
         left: operand(alloc, left)?,
@@ -127,7 +127,7 @@ fn comparison(
 
 // A cell with its content at 1:1.
 fn points_to(alloc: Global, at: &Occ, to: &Operand) -> Result<Assertion, AllocError>
-    ensures { IfOk result (λ a. formula_of a ≡ bare_formula (points_to at.now to.now)) }
+    ensures { IfOk result (λ a. assertion_of a ≡ bare_assertion (points_to at.now to.now)) }
 {
     Ok(Assertion::PointsTo {
         at: occ(alloc, at)?,
@@ -137,7 +137,7 @@ fn points_to(alloc: Global, at: &Occ, to: &Operand) -> Result<Assertion, AllocEr
 
 // A segment at 1:1.
 fn segment(alloc: Global, from: &Operand, to: &Operand) -> Result<Assertion, AllocError>
-    ensures { IfOk result (λ a. formula_of a ≡ bare_formula (segment from.now to.now)) }
+    ensures { IfOk result (λ a. assertion_of a ≡ bare_assertion (segment from.now to.now)) }
 {
     Ok(Assertion::Lseg {
         from: operand(alloc, from)?,
@@ -148,7 +148,7 @@ fn segment(alloc: Global, from: &Operand, to: &Operand) -> Result<Assertion, All
 /// An assertion at 1:1.
 #[cycle(assertion)]
 pub fn assertion(alloc: Global, whole: &Assertion) -> Result<Assertion, AllocError>
-    ensures { IfOk result (λ a. formula_of a ≡ bare_formula (formula_of whole.now)) }
+    ensures { IfOk result (λ a. assertion_of a ≡ bare_assertion (assertion_of whole.now)) }
 {
     match whole {
         Assertion::Emp => Ok(Assertion::Emp),
@@ -170,7 +170,7 @@ pub fn assertion(alloc: Global, whole: &Assertion) -> Result<Assertion, AllocErr
 // An assertion at 1:1, in a box.
 #[cycle(assertion)]
 fn boxed(alloc: Global, whole: &Assertion) -> Result<Box<Assertion>, AllocError>
-    ensures { IfOk result (λ b. formula_of b.value ≡ bare_formula (formula_of whole.now)) }
+    ensures { IfOk result (λ b. assertion_of b.value ≡ bare_assertion (assertion_of whole.now)) }
 {
     Ok(Box::new(alloc, assertion(alloc, whole)?)?)
 }
@@ -178,7 +178,7 @@ fn boxed(alloc: Global, whole: &Assertion) -> Result<Box<Assertion>, AllocError>
 /// Some assertions at 1:1.
 #[cycle(assertion)]
 pub fn assertions(alloc: Global, members: &[Assertion]) -> Result<Vec<Assertion>, AllocError>
-    ensures { IfOk result (λ v. map formula_of v.items ≡ map (λ f. bare_formula (formula_of f)) members.now) }
+    ensures { IfOk result (λ v. map assertion_of v.items ≡ map (λ f. bare_assertion (assertion_of f)) members.now) }
 {
     let mut copies = Vec::new(alloc);
     for member in members {

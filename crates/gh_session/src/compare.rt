@@ -2,9 +2,10 @@
 
 ghost use Rattle.std.specs.Prelude.{◌≡◌, ◌↔◌, map, IsTrue};
 ghost use Rattle.gh_session.specs.Essences as plain;
-ghost use Rattle.gh_session.specs.Views.{contract_view, round_view, start_view, step_view, check_view, essence_view};
+ghost use Rattle.gh_session.specs.Views.{contract_view, loop_contract_view, start_view, step_view, check_view};
+ghost use Rattle.gh_session.specs.Views.{essence_view};
 
-use crate::essence::{Check, Contract, Essence, Round, Start, Step};
+use crate::essence::{Check, Contract, Essence, LoopContract, Start, Step};
 use crate::same::{are_same_assertions, is_same_assertion, is_same_expr, is_same_name};
 use gh_ast::Expr;
 use gh_base::name::Name;
@@ -71,16 +72,16 @@ fn are_same_contracts(some: &[Contract], others: &[Contract]) -> bool
 }
 
 // Whether two loops are one.
-fn is_same_round(one: &Round, other: &Round) -> bool
-    ensures { IsTrue result ↔ (round_view one.now ≡ round_view other.now) }
+fn is_same_round(one: &LoopContract, other: &LoopContract) -> bool
+    ensures { IsTrue result ↔ (loop_contract_view one.now ≡ loop_contract_view other.now) }
 {
     is_same_assertion(&one.invariant, &other.invariant)
         && are_same_names(one.assigned.as_slice(), other.assigned.as_slice())
 }
 
 // Whether two lists of loops are one.
-fn are_same_rounds(some: &[Round], others: &[Round]) -> bool
-    ensures { IsTrue result ↔ (map round_view some.now ≡ map round_view others.now) }
+fn are_same_rounds(some: &[LoopContract], others: &[LoopContract]) -> bool
+    ensures { IsTrue result ↔ (map loop_contract_view some.now ≡ map loop_contract_view others.now) }
 {
     let mut left = others;
     for one in some {
@@ -117,7 +118,7 @@ fn is_same_start(one: &Start, other: &Start) -> bool
 
 // Whether a step assumes this comparison.
 fn is_assume(left: &Expr, equal: bool, right: &Expr, step: &Step) -> bool
-    ensures { IsTrue result ↔ (plain.assumed left.now equal right.now ≡ step_view step.now) }
+    ensures { IsTrue result ↔ (plain.assume_step left.now equal right.now ≡ step_view step.now) }
 {
     let Step::Assume {
         left: first,
@@ -132,7 +133,7 @@ fn is_assume(left: &Expr, equal: bool, right: &Expr, step: &Step) -> bool
 
 // Whether a step sets this variable to this value.
 fn is_set(target: &Name, value: &Expr, step: &Step) -> bool
-    ensures { IsTrue result ↔ (plain.assigned target.now value.now ≡ step_view step.now) }
+    ensures { IsTrue result ↔ (plain.set_step target.now value.now ≡ step_view step.now) }
 {
     let Step::Set {
         target: name,
@@ -146,7 +147,7 @@ fn is_set(target: &Name, value: &Expr, step: &Step) -> bool
 
 // Whether a step writes this value at this variable.
 fn is_write(at: &Name, value: &Expr, step: &Step) -> bool
-    ensures { IsTrue result ↔ (plain.written at.now value.now ≡ step_view step.now) }
+    ensures { IsTrue result ↔ (plain.write_step at.now value.now ≡ step_view step.now) }
 {
     let Step::Write {
         at: place,
@@ -160,7 +161,7 @@ fn is_write(at: &Name, value: &Expr, step: &Step) -> bool
 
 // Whether a step is this call.
 fn is_call(targets: &[Name], contract: usize, arguments: &[Expr], step: &Step) -> bool
-    ensures { IsTrue result ↔ (plain.called targets.now contract arguments.now ≡ step_view step.now) }
+    ensures { IsTrue result ↔ (plain.call_step targets.now contract arguments.now ≡ step_view step.now) }
 {
     let Step::Call {
         targets: names,
@@ -177,7 +178,7 @@ fn is_call(targets: &[Name], contract: usize, arguments: &[Expr], step: &Step) -
 
 // Whether a step returns these values.
 fn is_return(values: &[Expr], step: &Step) -> bool
-    ensures { IsTrue result ↔ (plain.answered values.now ≡ step_view step.now) }
+    ensures { IsTrue result ↔ (plain.return_step values.now ≡ step_view step.now) }
 {
     let Step::Return { values: contents } = step else {
         return false;
@@ -245,7 +246,7 @@ fn are_same_steps(some: &[Step], others: &[Step]) -> bool
 
 // Whether a check is that of this call's entry.
 fn is_entry(contract: usize, arguments: &[Expr], check: &Check) -> bool
-    ensures { IsTrue result ↔ (plain.entry contract arguments.now ≡ check_view check.now) }
+    ensures { IsTrue result ↔ (plain.callee_entry contract arguments.now ≡ check_view check.now) }
 {
     let Check::Entry {
         contract: place,

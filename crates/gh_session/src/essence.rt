@@ -10,8 +10,8 @@ ghost use Rattle.gh_path.specs.Terms.{some_assigns};
 ghost use Rattle.gh_path.specs.Walking.{loop_of};
 ghost use Rattle.gh_session.specs.Numbering.{listed};
 ghost use Rattle.gh_session.specs.Essences as plain;
-ghost use Rattle.gh_session.specs.Views.{contract_view, round_view, start_view, step_view, check_view};
-ghost use Rattle.gh_session.specs.Views.{essence_view, AreContractsAt, AreRoundsAt, IsEssenceIn};
+ghost use Rattle.gh_session.specs.Views.{contract_view, loop_contract_view, start_view, step_view, check_view};
+ghost use Rattle.gh_session.specs.Views.{essence_view, AreContractsAt, AreLoopContractsAt, IsEssenceIn};
 ghost use Rattle.gh_session.specs.Laws.{HasEssence};
 
 use crate::bare::{assertion, assertions, expr, exprs, names};
@@ -37,7 +37,7 @@ pub struct Contract {
 
 /// An invariant, and the variables that the body assigns, in the order of the procedure's.
 #[derive(Debug, Drop)]
-pub struct Round {
+pub struct LoopContract {
     pub invariant: Assertion,
     pub assigned: Vec<Name>,
 }
@@ -111,7 +111,7 @@ pub enum Check {
 pub struct Essence {
     pub variables: Vec<Name>,
     pub contracts: Vec<Contract>,
-    pub loops: Vec<Round>,
+    pub loops: Vec<LoopContract>,
     pub start: Start,
     pub steps: Vec<Step>,
     pub check: Check,
@@ -187,7 +187,7 @@ fn procedures_of(alloc: Global, condition: &Condition) -> Result<Vec<u16>, Alloc
 
 // The loops that a condition names, that of its start first.
 fn rounds_of(alloc: Global, condition: &Condition) -> Result<Vec<u16>, AllocError>
-    ensures { IfOk result (λ v. v.items ≡ plain.rounds_of (condition_of condition.now)) }
+    ensures { IfOk result (λ v. v.items ≡ plain.loops_met (condition_of condition.now)) }
 {
     let mut numbers = loops_from(alloc, condition.start)?;
     for step in condition.steps.as_slice() {
@@ -199,7 +199,7 @@ fn rounds_of(alloc: Global, condition: &Condition) -> Result<Vec<u16>, AllocErro
 
 // The step that assumes a comparison.
 fn assume(alloc: Global, left: &Expr, equal: bool, right: &Expr) -> Result<Step, AllocError>
-    ensures { IfOk result (λ s. step_view s ≡ plain.assumed (bare_expr left.now) equal (bare_expr right.now)) }
+    ensures { IfOk result (λ s. step_view s ≡ plain.assume_step (bare_expr left.now) equal (bare_expr right.now)) }
 {
     Ok(Step::Assume {
         left: expr(alloc, left)?,
@@ -210,7 +210,7 @@ fn assume(alloc: Global, left: &Expr, equal: bool, right: &Expr) -> Result<Step,
 
 // The step that sets a variable.
 fn set(alloc: Global, target: &Occ, value: &Expr) -> Result<Step, AllocError>
-    ensures { IfOk result (λ s. step_view s ≡ plain.assigned target.now.name (bare_expr value.now)) }
+    ensures { IfOk result (λ s. step_view s ≡ plain.set_step target.now.name (bare_expr value.now)) }
 {
     Ok(Step::Set {
         target: target.name.copy(alloc)?,
@@ -220,7 +220,7 @@ fn set(alloc: Global, target: &Occ, value: &Expr) -> Result<Step, AllocError>
 
 // The step that writes a cell.
 fn write(alloc: Global, at: &Occ, value: &Expr) -> Result<Step, AllocError>
-    ensures { IfOk result (λ s. step_view s ≡ plain.written at.now.name (bare_expr value.now)) }
+    ensures { IfOk result (λ s. step_view s ≡ plain.write_step at.now.name (bare_expr value.now)) }
 {
     Ok(Step::Write {
         at: at.name.copy(alloc)?,
@@ -236,7 +236,7 @@ fn call(
     arguments: &[Expr],
 ) -> Result<Step, AllocError>
     ensures { IfOk result (λ s.
-        step_view s ≡ plain.called (names targets.now) contract (map bare_expr arguments.now)) }
+        step_view s ≡ plain.call_step (names targets.now) contract (map bare_expr arguments.now)) }
 {
     Ok(Step::Call {
         targets: names(alloc, targets)?,
@@ -401,15 +401,15 @@ fn round_at(
     variables: &[Name],
     loops: &[While<'_>],
     number: u16,
-) -> Result<Round, AllocError>
-    ensures { IfOk result (λ r. round_view r ≡ plain.round_at variables.now (map loop_of loops.now) number) }
+) -> Result<LoopContract, AllocError>
+    ensures { IfOk result (λ r. loop_contract_view r ≡ plain.loop_contract_at variables.now (map loop_of loops.now) number) }
 {
     match loops.get(usize::from(number)) {
-        Some(round) => Ok(Round {
+        Some(round) => Ok(LoopContract {
             invariant: assertion(alloc, round.invariant)?,
             assigned: assigned(alloc, variables, round.body.statements.as_slice())?,
         }),
-        None => Ok(Round {
+        None => Ok(LoopContract {
             invariant: Assertion::Emp,
             assigned: Vec::new(alloc),
         }),
@@ -422,8 +422,8 @@ fn rounds(
     variables: &[Name],
     loops: &[While<'_>],
     numbers: &[u16],
-) -> Result<Vec<Round>, AllocError>
-    ensures { IfOk result (λ v. AreRoundsAt variables.now (map loop_of loops.now) numbers.now v.items) }
+) -> Result<Vec<LoopContract>, AllocError>
+    ensures { IfOk result (λ v. AreLoopContractsAt variables.now (map loop_of loops.now) numbers.now v.items) }
 {
     let mut whole = Vec::new(alloc);
     for number in numbers {
@@ -438,9 +438,9 @@ fn rounds_in(
     procedure: &Procedure,
     variables: &[Name],
     numbers: &[u16],
-) -> Result<Vec<Round>, AllocError>
+) -> Result<Vec<LoopContract>, AllocError>
     ensures { IfOk result (λ v.
-        AreRoundsAt variables.now (loops_of (procedure_of procedure.now)) numbers.now v.items) }
+        AreLoopContractsAt variables.now (loops_of (procedure_of procedure.now)) numbers.now v.items) }
 {
     let found = loops_of(alloc, procedure)?;
     rounds(alloc, variables, found.as_slice(), numbers)
@@ -478,7 +478,7 @@ fn essence_by(
     loops: &[u16],
 ) -> Result<Essence, AllocError>
     requires procedures { procedures.now ≡ plain.procedures_of (condition_of condition.now) }
-    requires loops { loops.now ≡ plain.rounds_of (condition_of condition.now) }
+    requires loops { loops.now ≡ plain.loops_met (condition_of condition.now) }
     ensures { IfOk result (IsEssenceIn (program_of program.now) (procedure_of procedure.now) condition.now) }
 {
     let variables = variables_of(alloc, procedure)?;

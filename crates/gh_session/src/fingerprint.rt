@@ -1,11 +1,12 @@
 //! A number that is computed from an essence, by which the essence is found.
 
 ghost use Rattle.std.specs.Prelude.{◌≡◌, map};
-ghost use Rattle.gh_ast.specs.Plain.{test_of, tests_view, comparison, formula_of, formulas_view};
+ghost use Rattle.gh_ast.specs.Plain.{cond_of, conds_view, comparison, assertion_of, assertions_view};
 ghost use Rattle.gh_session.specs.Fingerprint as plain;
-ghost use Rattle.gh_session.specs.Views.{contract_view, round_view, start_view, step_view, check_view, essence_view};
+ghost use Rattle.gh_session.specs.Views.{contract_view, loop_contract_view, start_view, step_view, check_view};
+ghost use Rattle.gh_session.specs.Views.{essence_view};
 
-use crate::essence::{Check, Contract, Essence, Round, Start, Step};
+use crate::essence::{Check, Contract, Essence, LoopContract, Start, Step};
 use gh_ast::{Assertion, Cond, Expr, Operand};
 use gh_base::name::Name;
 
@@ -71,35 +72,35 @@ fn with_exprs(hash: u64, exprs: &[Expr]) -> u64
 
 // With a test mixed in.
 #[cycle(any_test)]
-fn with_test(hash: u64, test: &Cond) -> u64
-    ensures { result ≡ plain.with_test hash (test_of test.now) }
+fn with_cond(hash: u64, test: &Cond) -> u64
+    ensures { result ≡ plain.with_cond hash (cond_of test.now) }
 {
     match test {
         Cond::Compare { left, equal, right } => {
             let way = if *equal { 21 } else { 22 };
             with_expr(with_expr(mix(hash, way), left), right)
         }
-        Cond::Not(inner) => with_test(mix(hash, 23), inner),
-        Cond::And(members) => with_tests(mix(hash, 24), members.as_slice()),
-        Cond::Or(members) => with_tests(mix(hash, 25), members.as_slice()),
+        Cond::Not(inner) => with_cond(mix(hash, 23), inner),
+        Cond::And(members) => with_conds(mix(hash, 24), members.as_slice()),
+        Cond::Or(members) => with_conds(mix(hash, 25), members.as_slice()),
     }
 }
 
 // With the members of a test mixed in.
 #[cycle(any_test)]
-fn with_tests(hash: u64, members: &[Cond]) -> u64
-    ensures { result ≡ plain.with_tests hash (tests_view members.now) }
+fn with_conds(hash: u64, members: &[Cond]) -> u64
+    ensures { result ≡ plain.with_conds hash (conds_view members.now) }
 {
     let mut mixed = hash;
     for member in members {
-        mixed = with_test(mixed, member);
+        mixed = with_cond(mixed, member);
     }
     mix(mixed, 26)
 }
 
 // With a comparison of an assertion mixed in.
 fn with_comparison(hash: u64, left: &Operand, equal: bool, right: &Operand) -> u64
-    ensures { result ≡ plain.with_formula hash (comparison left.now equal right.now) }
+    ensures { result ≡ plain.with_assertion hash (comparison left.now equal right.now) }
 {
     let way = if equal { 28 } else { 29 };
     with_operand(with_operand(mix(hash, way), left), right)
@@ -108,7 +109,7 @@ fn with_comparison(hash: u64, left: &Operand, equal: bool, right: &Operand) -> u
 // With an assertion mixed in.
 #[cycle(assertion)]
 fn with_assertion(hash: u64, whole: &Assertion) -> u64
-    ensures { result ≡ plain.with_formula hash (formula_of whole.now) }
+    ensures { result ≡ plain.with_assertion hash (assertion_of whole.now) }
 {
     match whole {
         Assertion::Emp => mix(hash, 27),
@@ -118,7 +119,7 @@ fn with_assertion(hash: u64, whole: &Assertion) -> u64
         Assertion::Lseg { from, to } => with_operand(with_operand(mix(hash, 32), from), to),
         Assertion::Star(members) => with_assertions(mix(hash, 33), members.as_slice()),
         Assertion::Cases { test, yes, no } => {
-            let tested = with_test(mix(hash, 34), test);
+            let tested = with_cond(mix(hash, 34), test);
             with_assertion(with_assertion(tested, yes), no)
         }
     }
@@ -127,7 +128,7 @@ fn with_assertion(hash: u64, whole: &Assertion) -> u64
 // With the members of an assertion mixed in.
 #[cycle(assertion)]
 fn with_assertions(hash: u64, members: &[Assertion]) -> u64
-    ensures { result ≡ plain.with_formulas hash (formulas_view members.now) }
+    ensures { result ≡ plain.with_assertions hash (assertions_view members.now) }
 {
     let mut mixed = hash;
     for member in members {
@@ -138,7 +139,7 @@ fn with_assertions(hash: u64, members: &[Assertion]) -> u64
 
 // With some alternatives mixed in.
 fn counted_assertions(hash: u64, members: &[Assertion]) -> u64
-    ensures { result ≡ plain.counted plain.with_formula hash (map formula_of members.now) }
+    ensures { result ≡ plain.counted plain.with_assertion hash (map assertion_of members.now) }
 {
     let mut mixed = mix(hash, members.len() as u64);
     for member in members {
@@ -169,8 +170,8 @@ fn with_contracts(hash: u64, contracts: &[Contract]) -> u64
 }
 
 // With a loop mixed in.
-fn with_round(hash: u64, round: &Round) -> u64
-    ensures { result ≡ plain.with_round hash (round_view round.now) }
+fn with_loop_contract(hash: u64, round: &LoopContract) -> u64
+    ensures { result ≡ plain.with_loop_contract hash (loop_contract_view round.now) }
 {
     with_assertion(
         with_names(hash, round.assigned.as_slice()),
@@ -179,12 +180,12 @@ fn with_round(hash: u64, round: &Round) -> u64
 }
 
 // With some loops mixed in.
-fn with_rounds(hash: u64, rounds: &[Round]) -> u64
-    ensures { result ≡ plain.counted plain.with_round hash (map round_view rounds.now) }
+fn with_rounds(hash: u64, rounds: &[LoopContract]) -> u64
+    ensures { result ≡ plain.counted plain.with_loop_contract hash (map loop_contract_view rounds.now) }
 {
     let mut mixed = mix(hash, rounds.len() as u64);
     for round in rounds {
-        mixed = with_round(mixed, round);
+        mixed = with_loop_contract(mixed, round);
     }
     mixed
 }

@@ -19,8 +19,11 @@ fn text_of(alloc: Global, bytes: &[u8]) -> Result<Text, AllocError>
     Ok(text)
 }
 
+/// The most separators of a session file.
+pub const MOST_EDITS: usize = 256;
+
 /// The pieces of a session file. A line that begins with `%` is `%% NAME`, which asks for an answer
-/// after its piece, or `%+ NAME`, which doesn't. There are at most 256 such lines.
+/// after its piece, or `%+ NAME`, which doesn't. There are at most `MOST_EDITS` such lines.
 pub fn read_session(alloc: Global, text: &[u8]) -> Result<Edits, SessionError>
     requires { length text.now < 2 ^ 32 - 1 }
     ensures read { IfOk result (IsSession text.now) }
@@ -36,7 +39,7 @@ pub fn read_session(alloc: Global, text: &[u8]) -> Result<Edits, SessionError>
         let Some(Mark { name, asks }) = mark_of(alloc, mark)? else {
             return Err(SessionError::Line { line: number });
         };
-        if edits.as_slice().len() == 256 {
+        if edits.as_slice().len() == MOST_EDITS {
             return Err(SessionError::TooMany { line: number });
         }
         let part = first_part(after);

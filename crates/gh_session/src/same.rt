@@ -1,7 +1,7 @@
 //! Whether two parts of essences are one.
 
 ghost use Rattle.std.specs.Prelude.{◌≡◌, ◌↔◌, map, IsTrue};
-ghost use Rattle.gh_ast.specs.Plain.{test_of, comparison, points_to, segment, formula_of};
+ghost use Rattle.gh_ast.specs.Plain.{cond_of, comparison, points_to, segment, assertion_of};
 
 use gh_ast::{Assertion, Cond, Expr, Occ, Operand};
 use gh_base::name::Name;
@@ -55,7 +55,7 @@ pub fn is_same_expr(one: &Expr, other: &Expr) -> bool
 // Whether two tests are one.
 #[cycle(any_test)]
 fn is_same_test(one: &Cond, other: &Cond) -> bool
-    ensures { IsTrue result ↔ (test_of one.now ≡ test_of other.now) }
+    ensures { IsTrue result ↔ (cond_of one.now ≡ cond_of other.now) }
 {
     match one {
         Cond::Compare { left, equal, right } => {
@@ -93,7 +93,7 @@ fn is_same_test(one: &Cond, other: &Cond) -> bool
 // Whether two lists of tests are one.
 #[cycle(any_test)]
 fn are_same_tests(some: &[Cond], others: &[Cond]) -> bool
-    ensures { IsTrue result ↔ (map test_of some.now ≡ map test_of others.now) }
+    ensures { IsTrue result ↔ (map cond_of some.now ≡ map cond_of others.now) }
 {
     let mut left = others;
     for one in some {
@@ -110,7 +110,7 @@ fn are_same_tests(some: &[Cond], others: &[Cond]) -> bool
 
 // Whether an assertion is this comparison.
 fn is_comparison(left: &Operand, equal: bool, right: &Operand, assertion: &Assertion) -> bool
-    ensures { IsTrue result ↔ (comparison left.now equal right.now ≡ formula_of assertion.now) }
+    ensures { IsTrue result ↔ (comparison left.now equal right.now ≡ assertion_of assertion.now) }
 {
     let Assertion::Pure {
         left: first,
@@ -125,7 +125,7 @@ fn is_comparison(left: &Operand, equal: bool, right: &Operand, assertion: &Asser
 
 // Whether an assertion is this cell with its content.
 fn is_points_to(at: &Occ, to: &Operand, assertion: &Assertion) -> bool
-    ensures { IsTrue result ↔ (points_to at.now to.now ≡ formula_of assertion.now) }
+    ensures { IsTrue result ↔ (points_to at.now to.now ≡ assertion_of assertion.now) }
 {
     let Assertion::PointsTo {
         at: place,
@@ -139,7 +139,7 @@ fn is_points_to(at: &Occ, to: &Operand, assertion: &Assertion) -> bool
 
 // Whether an assertion is this segment.
 fn is_segment(from: &Operand, to: &Operand, assertion: &Assertion) -> bool
-    ensures { IsTrue result ↔ (segment from.now to.now ≡ formula_of assertion.now) }
+    ensures { IsTrue result ↔ (segment from.now to.now ≡ assertion_of assertion.now) }
 {
     let Assertion::Lseg {
         from: first,
@@ -154,7 +154,7 @@ fn is_segment(from: &Operand, to: &Operand, assertion: &Assertion) -> bool
 /// Whether two assertions are one.
 #[cycle(assertion)]
 pub fn is_same_assertion(one: &Assertion, other: &Assertion) -> bool
-    ensures { IsTrue result ↔ (formula_of one.now ≡ formula_of other.now) }
+    ensures { IsTrue result ↔ (assertion_of one.now ≡ assertion_of other.now) }
 {
     match one {
         Assertion::Emp => {
@@ -197,7 +197,7 @@ pub fn is_same_assertion(one: &Assertion, other: &Assertion) -> bool
 /// Whether two lists of assertions are one.
 #[cycle(assertion)]
 pub fn are_same_assertions(some: &[Assertion], others: &[Assertion]) -> bool
-    ensures { IsTrue result ↔ (map formula_of some.now ≡ map formula_of others.now) }
+    ensures { IsTrue result ↔ (map assertion_of some.now ≡ map assertion_of others.now) }
 {
     let mut left = others;
     for one in some {

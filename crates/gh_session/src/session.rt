@@ -7,7 +7,7 @@ ghost use Rattle.gh_ast.specs.Plain.{program_of};
 ghost use Rattle.gh_path.specs.Admitted.{IsAdmitted};
 ghost use Rattle.gh_path.specs.Kept.{IsOne, condition_of};
 ghost use Rattle.gh_trace.specs.Kept.{drawn_of, HasNoCounterexample};
-ghost use Rattle.gh_trace.specs.Replay.{Refutes};
+ghost use Rattle.gh_trace.specs.Replay.{IsDrawnCounterexample};
 ghost use Rattle.gh_session.specs.Known.{essences, IsRight, AreRight};
 ghost use Rattle.gh_session.specs.Places.{known_of, knowledge, LacksAt, LacksAtAll};
 ghost use Rattle.gh_session.specs.Decided.{IsLessonOn, IsOutcome, Tells, IsCutShort};
@@ -165,7 +165,7 @@ impl Session {
         requires one { IsOne (program_of typed.now) condition.now }
         ensures none { IfOk result (λ l. IfNone l.answer (HasNoCounterexample (program_of typed.now) condition.now)) }
         ensures some { IfOk result (λ l. IfSome l.answer (λ t.
-            Refutes (program_of typed.now) (condition_of condition.now) (drawn_of t))) }
+            IsDrawnCounterexample (program_of typed.now) (condition_of condition.now) (drawn_of t))) }
         ensures learns { IfOk result (IsLessonOn (program_of typed.now) condition.now self.old self.new) }
         ensures unchanged { IfErr result (λ _. self.new ≡ self.old) }
         ensures asked_once { IfOk result (λ l. D.calls decider.new ≤ D.calls decider.old + cond l.is_new 1 0) }

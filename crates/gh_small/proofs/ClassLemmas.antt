@@ -9,7 +9,9 @@ few m at n values one h = few_leaders m at n values one (λ t lt is. has values 
 
 pub counted : ClassesAreCounted
 counted s m values some c apart h =
-    let low = few m m.class s.terms values (λ t u lt le e. e) (λ t lt there. (h (m.class t)).1 (t, lt, there, Rattle.std.proofs.Common.refl)) in
+    let low =
+    few m m.class s.terms values (λ t u lt le e. e)
+    (λ t lt there. (h (m.class t)).1 (t, lt, there, Rattle.std.proofs.Common.refl)) in
     let high = many_leaders m s.terms values apart (λ v w.
     let t = (h v).0 w in
     let u = led_by s m some c t.0 t.1 t.2 in

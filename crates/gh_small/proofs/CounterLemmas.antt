@@ -36,11 +36,14 @@ module _ (n k : ℕ) (L : ℕ → Bool) (S : ℕ → ℕ → Bool) (h : IsSteppe
   ]
 
 -- and what tells the count makes the steps
-module _ (n k : ℕ) (L : ℕ → Bool) (S : ℕ → ℕ → Bool) (is : (t j : ℕ) → j < k → (S t j ≡ true) ↔ (j < counted L (suc t))) where
+module _ (n k : ℕ) (L : ℕ → Bool) (S : ℕ → ℕ → Bool)
+    (is : (t j : ℕ) → j < k → (S t j ≡ true) ↔ (j < counted L (suc t))) where
   pub stepped : IsStepped n k L S
   stepped = record {
     begun = λ t lt le on. (is t 0 le).1 (omega (arith, one_more L t on));
-    raised = λ t j lt le on was. (is (suc t) (suc j) le).1 (let low = (is t j (omega arith)).0 was in omega (arith, one_more L (suc t) on));
+    raised =
+        λ t j lt le on was. (is (suc t) (suc j) le).1
+        (let low = (is t j (omega arith)).0 was in omega (arith, one_more L (suc t) on));
     kept = λ t j lt le was. (is (suc t) j le).1 (let low = (is t j le).0 was in omega arith);
   }
 
@@ -56,4 +59,5 @@ counted_within p q (suc n) h =
 
 pub counted_same : (p q : ℕ → Bool) (n : ℕ) → ((t : ℕ) → t < n → p t ≡ q t) → counted p n ≡ counted q n
 counted_same p q zero h = refl
-counted_same p q (suc n) h = let before = counted_same p q n (λ t lt. h t (omega arith)) in omega (arith, ap one_if (h n (omega arith)))
+counted_same p q (suc n) h = let before = counted_same p q n (λ t lt. h t (omega arith)) in
+    omega (arith, ap one_if (h n (omega arith)))

@@ -1,5 +1,6 @@
 -- Cells of the first heap of a structure, and models of bounded clauses.
-use Rattle.std.proofs.Common.{◌≡◌, ◌≢◌, ◌⊎◌, inl, inr, ℕ, ◌<◌, ◌≤◌, List, true, false, length, sym, ap, ◌∙◌, subst, arith}
+use Rattle.std.proofs.Common.{◌≡◌, ◌≢◌, ◌⊎◌, inl, inr, ℕ, ◌<◌, ◌≤◌, List, true, false, length, sym, ap, ◌∙◌, subst}
+use Rattle.std.proofs.Common.{arith}
 use Rattle.std.specs.Prelude.{◌==◌}
 use Rattle.std.specs.FinMap.{len, entries, len-entries}
 use Rattle.std.proofs.lemmas.List.{length-map}
@@ -24,7 +25,8 @@ use Rattle.gh_small.proofs.StructureLemmas.{leads_own}
 
 module _ (s : Tables) (w : AreTables s) where
   -- a term with a cell leads its class
-  stands_leads : (t : ℕ) → t < s.sizes.terms → stands_at (interpretation_of s) s.sizes.terms 0 t ≡ true → leads (interpretation_of s) t ≡ true
+  stands_leads : (t : ℕ) → t < s.sizes.terms → stands_at (interpretation_of s) s.sizes.terms 0 t ≡ true
+      → leads (interpretation_of s) t ≡ true
   stands_leads t lt on = elim (cases_Bool (class_at s.classes t == t)) as (λ _. leads (interpretation_of s) t ≡ true) [
     | inl own ↦
         let is : class_at s.classes t ≡ t = eqb-true (class_at s.classes t) t own in
@@ -57,19 +59,23 @@ first_model p s is = record {
 }
 
 -- a model of bounded clauses is one of the clauses
-pub next_model : (p : Problem) (k : ℕ) (s : Tables) → IsProblem p → 1 ≤ k → IsModelOf (bounded_by p k) s → IsModelled p s
+pub next_model : (p : Problem) (k : ℕ) (s : Tables) → IsProblem p → 1 ≤ k → IsModelOf (bounded_by p k) s
+    → IsModelled p s
 next_model p k s known some is = record {
   terms = ap (λ z. z.terms) is.sizes;
   versions = ap (λ z. z.versions) is.sizes;
-  model = (bounded_sound p k (interpretation_of s) known some (record { congruence = is.congruence; instances = is.instances; clauses = is.clauses })).0;
+  model = (bounded_sound p k (interpretation_of s) known some
+      (record { congruence = is.congruence; instances = is.instances; clauses = is.clauses })).0;
 }
 
 -- with fewer cells
-pub next_below : (p : Problem) (k cells : ℕ) (s : Tables) → IsProblem p → 1 ≤ k → IsModelOf (bounded_by p k) s → cells ≤ allocated_classes (interpretation_of s) s.sizes.terms → cells < k
+pub next_below : (p : Problem) (k cells : ℕ) (s : Tables) → IsProblem p → 1 ≤ k → IsModelOf (bounded_by p k) s
+    → cells ≤ allocated_classes (interpretation_of s) s.sizes.terms → cells < k
 next_below p k cells s known some is few =
     let terms : s.sizes.terms ≡ p.sizes.terms = ap (λ z. z.terms) is.sizes in
     let same = ap (allocated_classes (interpretation_of s)) terms in
-    let bound = (bounded_sound p k (interpretation_of s) known some (record { congruence = is.congruence; instances = is.instances; clauses = is.clauses })).1 in
+    let bound = (bounded_sound p k (interpretation_of s) known some
+    (record { congruence = is.congruence; instances = is.instances; clauses = is.clauses })).1 in
     omega (arith, same, bound, few)
 
 -- what is asked first has as many cells as the first model, and what is asked later has fewer
@@ -77,10 +83,12 @@ abbrev pub HasRoomFrom : Problem → ℕ → Tables → Type 0
 HasRoomFrom p k s = (k ≡ len (first_heap s)) ⊎ HasRoomBelow p s
 
 pub room_first : (p : Problem) (k : ℕ) (s : Tables) → HasRoomFrom p k s → HasRoom p k → HasRoomBelow p s
-room_first p k s from room = elim from as (λ _. HasRoomBelow p s) [ inl e ↦ λ some. subst (HasRoom p) e room | inr below ↦ below ]
+room_first p k s from room =
+    elim from as (λ _. HasRoomBelow p s) [ inl e ↦ λ some. subst (HasRoom p) e room | inr below ↦ below ]
 
 pub room_none : (p : Problem) (k : ℕ) (s : Tables) → HasRoomFrom p k s → k ≤ 0 → HasRoomBelow p s
-room_none p k s from none = elim from as (λ _. HasRoomBelow p s) [ inl e ↦ λ some. absurd (omega (arith, e, none, some)) | inr below ↦ below ]
+room_none p k s from none =
+    elim from as (λ _. HasRoomBelow p s) [ inl e ↦ λ some. absurd (omega (arith, e, none, some)) | inr below ↦ below ]
 
 pub lower : (p : Problem) (k : ℕ) (s : Section) → IsRefutationOf (bounded_by p k) s → IsLower p k s
 lower p k s is = record { valid = is.valid; writable = record { first = is.first; few = is.few; spelled = is.spelled } }

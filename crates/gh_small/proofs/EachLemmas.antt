@@ -38,7 +38,9 @@ module _ {A : Type 0} (P : A → Type 0) where
 
   pub any_left : (xs ys : List A) → Any P xs → Any P (xs ++ ys)
   any_left [] ys w = any_none w
-  any_left (x ∷ xs) ys w = elim (any_cases x xs w) as (λ _. Any P (x ∷ xs ++ ys)) [ inl holds ↦ any_here x (xs ++ ys) holds | inr v ↦ any_later x (xs ++ ys) (any_left xs ys v) ]
+  any_left (x ∷ xs) ys w =
+      elim (any_cases x xs w) as (λ _. Any P (x ∷ xs ++ ys))
+      [ inl holds ↦ any_here x (xs ++ ys) holds | inr v ↦ any_later x (xs ++ ys) (any_left xs ys v) ]
 
   pub any_right : (xs ys : List A) → Any P ys → Any P (xs ++ ys)
   any_right [] ys w = w
@@ -48,7 +50,8 @@ module _ {A : Type 0} (P : A → Type 0) where
   any_append [] ys w = inr w
   any_append (x ∷ xs) ys w = elim (any_cases x (xs ++ ys) w) as (λ _. Any P (x ∷ xs) ⊎ Any P ys) [
     | inl holds ↦ inl (any_here x xs holds)
-    | inr v ↦ elim (any_append xs ys v) as (λ _. Any P (x ∷ xs) ⊎ Any P ys) [ inl u ↦ inl (any_later x xs u) | inr u ↦ inr u ]
+    | inr v ↦ elim (any_append xs ys v) as (λ _. Any P (x ∷ xs) ⊎ Any P ys)
+        [ inl u ↦ inl (any_later x xs u) | inr u ↦ inr u ]
   ]
 
   -- every list has only such members

@@ -27,21 +27,34 @@ module _ (d : ℕ) (m w : Interpretation) (e : IsOneBefore d m w) where
 
   -- a clause without new definitions keeps its truth
   pub clause_kept : (c : List Lit) → All (λ l. IsEarlier d l.atom) c → IsClauseTrue m c → IsClauseTrue w c
-  clause_kept c old t = (t.0, t.1, t.2, t.3, ap (under t.1.positive) (same_truth t.1.atom (All-contains (λ (l : Lit). IsEarlier d l.atom) c t.1 old (t.0, t.2, t.3))) ∙ t.4)
+  clause_kept c old t = (
+    t.0,
+    t.1,
+    t.2,
+    t.3,
+    ap (under t.1.positive) (same_truth t.1.atom
+        (All-contains (λ (l : Lit). IsEarlier d l.atom) c t.1 old (t.0, t.2, t.3))) ∙ t.4,
+  )
 
   -- and so does a congruence
-  pub congruence_kept : (s r : Sizes) → r.terms ≡ s.terms → r.versions ≡ s.versions → IsCongruence s m → IsCongruence r w
+  pub congruence_kept : (s r : Sizes) → r.terms ≡ s.terms → r.versions ≡ s.versions → IsCongruence s m
+      → IsCongruence r w
   congruence_kept s r terms versions c = record {
     btwn = λ v x y z p q t h k a b g.
         e.table (Btwn v x y z) tt
-        ∙ c.btwn v x y z p q t (omega (arith, h.0), omega (arith, h.1), omega (arith, h.2), omega (arith, h.3)) (omega (arith, k.0), omega (arith, k.1), omega (arith, k.2), omega (arith, k.3)) (old x.0 p.0 a)
+        ∙ c.btwn v x y z p q t (omega (arith, h.0), omega (arith, h.1), omega (arith, h.2), omega (arith, h.3))
+        (omega (arith, k.0), omega (arith, k.1), omega (arith, k.2), omega (arith, k.3)) (old x.0 p.0 a)
         (old y.0 q.0 b) (old z.0 t.0 g)
         ∙ sym (e.table (Btwn v p q t) tt);
     hop = λ v x y p q h k a b.
         e.table (Hop v x y) tt
-        ∙ c.hop v x y p q (omega (arith, h.0), omega (arith, h.1), omega (arith, h.2)) (omega (arith, k.0), omega (arith, k.1), omega (arith, k.2)) (old x.0 p.0 a) (old y.0 q.0 b)
+        ∙ c.hop v x y p q (omega (arith, h.0), omega (arith, h.1), omega (arith, h.2))
+        (omega (arith, k.0), omega (arith, k.1), omega (arith, k.2)) (old x.0 p.0 a) (old y.0 q.0 b)
         ∙ sym (e.table (Hop v p q) tt);
-    alloc = λ v x p h k a. e.table (Alloc v x) tt ∙ c.alloc v x p (omega (arith, h.0), omega (arith, h.1)) (omega (arith, k.0), omega (arith, k.1)) (old x.0 p.0 a) ∙ sym (e.table (Alloc v p) tt);
+    alloc =
+        λ v x p h k a. e.table (Alloc v x) tt
+        ∙ c.alloc v x p (omega (arith, h.0), omega (arith, h.1)) (omega (arith, k.0), omega (arith, k.1))
+        (old x.0 p.0 a) ∙ sym (e.table (Alloc v p) tt);
   }
     where
       old : (x y : ℕ) → w.class x ≡ w.class y → m.class x ≡ m.class y
@@ -76,7 +89,8 @@ bounded_sound p k m is some h = (
     instances = h.instances;
     clauses = all_left (IsClauseTrue m) p.clauses (fewer p.sizes.terms p.sizes.defs k) h.clauses;
   },
-  sound m p.sizes.terms p.sizes.defs k is.terms some (all_right (IsClauseTrue m) p.clauses (fewer p.sizes.terms p.sizes.defs k) h.clauses),
+  sound m p.sizes.terms p.sizes.defs k is.terms some
+      (all_right (IsClauseTrue m) p.clauses (fewer p.sizes.terms p.sizes.defs k) h.clauses),
 )
 
 pub bounded_possible : BoundedIsPossible
@@ -86,9 +100,14 @@ bounded_possible p k m is some h few =
       w.1,
       record {
         congruence = congruence_kept p.sizes.defs m w.0 w.1 p.sizes _ refl refl h.congruence;
-        instances = All-weaker (IsInstanceTrue m) (IsInstanceTrue w.0) (instance_stays m w.0 (from_first p.sizes.defs m w.0 w.1)) (instances p.sizes.terms p.sizes.versions) h.instances;
+        instances =
+            All-weaker (IsInstanceTrue m) (IsInstanceTrue w.0)
+            (instance_stays m w.0 (from_first p.sizes.defs m w.0 w.1)) (instances p.sizes.terms p.sizes.versions)
+            h.instances;
         clauses = All-append (IsClauseTrue w.0) p.clauses (fewer p.sizes.terms p.sizes.defs k)
-            (λ i c lt. clause_kept p.sizes.defs m w.0 w.1 (get_or p.clauses i c) (λ j l le. before p.sizes (get_or (get_or p.clauses i c) j l).atom (is.in_range i c lt j l le)) (h.clauses i c lt))
+            (λ i c lt. clause_kept p.sizes.defs m w.0 w.1 (get_or p.clauses i c)
+            (λ j l le. before p.sizes (get_or (get_or p.clauses i c) j l).atom (is.in_range i c lt j l le))
+            (h.clauses i c lt))
             w.2;
       },
     )

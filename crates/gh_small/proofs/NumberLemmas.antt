@@ -14,9 +14,11 @@ pub at_begin : (n d k t : ℕ) → 1 ≤ t → counter_clauses n d k t 0 ≡ beg
 at_begin n d k t h = let e : t ≡ suc (t - 1) = omega arith in
     ap (λ u. counter_clauses n d k u 0) e ∙ ap (λ u. begins n d k u ∷ keeps n d k (t - 1) 0 ∷ []) (sym e)
 
-pub at_later : (n d k t j : ℕ) → 1 ≤ t → 1 ≤ j → counter_clauses n d k t j ≡ raises n d k (t - 1) (j - 1) ∷ keeps n d k (t - 1) j ∷ []
+pub at_later : (n d k t j : ℕ) → 1 ≤ t → 1 ≤ j
+    → counter_clauses n d k t j ≡ raises n d k (t - 1) (j - 1) ∷ keeps n d k (t - 1) j ∷ []
 at_later n d k t j h g = let e : t ≡ suc (t - 1) = omega arith in let f : j ≡ suc (j - 1) = omega arith in
-    ap (λ u. counter_clauses n d k u j) e ∙ ap (counter_clauses n d k (suc (t - 1))) f ∙ ap (λ i. raises n d k (t - 1) (j - 1) ∷ keeps n d k (t - 1) i ∷ []) (sym f)
+    ap (λ u. counter_clauses n d k u j) e ∙ ap (counter_clauses n d k (suc (t - 1))) f
+    ∙ ap (λ i. raises n d k (t - 1) (j - 1) ∷ keeps n d k (t - 1) i ∷ []) (sym f)
 
 pub at_nothing : (n d k j : ℕ) → 1 ≤ j → counter_clauses n d k 0 j ≡ []
 at_nothing n d k j g = let f : j ≡ suc (j - 1) = omega arith in ap (counter_clauses n d k 0) f

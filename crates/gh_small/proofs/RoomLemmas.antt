@@ -1,5 +1,6 @@
 -- Room for a bound, by numbers.
-use Rattle.std.proofs.Common.{◌≡◌, ◌↔◌, sym, subst, inl, inr, ℕ, zero, suc, ◌+◌, ◌-◌, ◌*◌, ◌<◌, ◌≤◌, ◌++◌, Bool, length, arith, length-append}
+use Rattle.std.proofs.Common.{◌≡◌, ◌↔◌, sym, subst, inl, inr, ℕ, zero, suc, ◌+◌, ◌-◌, ◌*◌, ◌<◌, ◌≤◌, ◌++◌, Bool, length}
+use Rattle.std.proofs.Common.{arith, length-append}
 use Rattle.std.proofs.lemmas.Bool.{cases_Bool}
 use Rattle.gh_base.specs.declared.sizes.Sizes.{Sizes}
 use Rattle.gh_base.specs.Meaning.{Interpretation}
@@ -22,15 +23,24 @@ classes_below m n = counted_below (leads m) n
 
 -- by numbers
 room_of : (p : Problem) (k count : ℕ) → count ≡ length p.clauses → 1 ≤ p.sizes.terms → 1 ≤ k
-    → HasRoom p k ↔ ((count + (p.sizes.terms + (p.sizes.terms - 1) * (2 * k) + 2) ≤ 4294967294) × (p.sizes.defs + p.sizes.terms + p.sizes.terms * k < 4294967296))
+    → HasRoom p k ↔ ((count + (p.sizes.terms + (p.sizes.terms - 1) * (2 * k) + 2) ≤ 4294967294)
+    × (p.sizes.defs + p.sizes.terms + p.sizes.terms * k < 4294967296))
 room_of p k count is one some =
     let all = length-append p.clauses (fewer p.sizes.terms p.sizes.defs k) in
     let new = many p.sizes.terms p.sizes.defs k one some in (
-      (λ h. (let most : length (p.clauses ++ fewer p.sizes.terms p.sizes.defs k) ≤ 4294967294 = h.clauses in omega arith, h.defs)),
+      (λ h. (
+        let most : length (p.clauses ++ fewer p.sizes.terms p.sizes.defs k) ≤ 4294967294 = h.clauses in
+            omega arith,
+        h.defs,
+      )),
       λ h. record { clauses = (let few = h.0 in omega arith); defs = h.1 },
     )
 
-pub room_says : (p : Problem) (s : Sizes) (k count : ℕ) → s ≡ p.sizes → count ≡ length p.clauses → 1 ≤ p.sizes.terms → 1 ≤ k
-    → HasRoom p k ↔ ((count + (s.terms + (s.terms - 1) * (2 * k) + 2) ≤ 4294967294) × (s.defs + s.terms + s.terms * k < 4294967296))
+pub room_says : (p : Problem) (s : Sizes) (k count : ℕ) → s ≡ p.sizes → count ≡ length p.clauses → 1 ≤ p.sizes.terms
+    → 1 ≤ k
+    → HasRoom p k ↔ ((count + (s.terms + (s.terms - 1) * (2 * k) + 2) ≤ 4294967294)
+    × (s.defs + s.terms + s.terms * k < 4294967296))
 room_says p s k count e is one some =
-    subst (λ (z : Sizes). HasRoom p k ↔ ((count + (z.terms + (z.terms - 1) * (2 * k) + 2) ≤ 4294967294) × (z.defs + z.terms + z.terms * k < 4294967296))) (sym e) (room_of p k count is one some)
+    subst (λ (z : Sizes). HasRoom p k
+    ↔ ((count + (z.terms + (z.terms - 1) * (2 * k) + 2) ≤ 4294967294)
+    × (z.defs + z.terms + z.terms * k < 4294967296))) (sym e) (room_of p k count is one some)

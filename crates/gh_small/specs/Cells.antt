@@ -15,5 +15,7 @@ CellsAreCounted = (stands : ℕ → Bool) (to : ℕ → ℕ) (n : ℕ) → len (
 -- there are no more allocated classes than cells
 abbrev pub ClassesAreCells : Type 0
 ClassesAreCells =
-    (m : Interpretation) (at : ℕ → ℕ) (n : ℕ) (h : Heap) → ((t u : ℕ) → t < n → u < n → at t ≡ at u → m.class t ≡ m.class u)
-    → ((t : ℕ) → t < n → m.table (is_allocated t) ≡ true → (v : ℕ) × (get h (at t) ≡ Some v)) → allocated_classes m n ≤ len h
+    (m : Interpretation) (at : ℕ → ℕ) (n : ℕ) (h : Heap)
+    → ((t u : ℕ) → t < n → u < n → at t ≡ at u → m.class t ≡ m.class u)
+    → ((t : ℕ) → t < n → m.table (is_allocated t) ≡ true → (v : ℕ) × (get h (at t) ≡ Some v))
+    → allocated_classes m n ≤ len h

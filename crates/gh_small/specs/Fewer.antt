@@ -36,7 +36,8 @@ begins n d k t = positive (counter n d k t 0) ∷ negative (leader d t) ∷ []
 
 -- where the term after t leads, the terms up to it have one leader more than those up to t
 abbrev pub raises : ℕ → ℕ → ℕ → ℕ → ℕ → List Lit
-raises n d k t j = positive (counter n d k (suc t) (suc j)) ∷ negative (leader d (suc t)) ∷ negative (counter n d k t j) ∷ []
+raises n d k t j =
+    positive (counter n d k (suc t) (suc j)) ∷ negative (leader d (suc t)) ∷ negative (counter n d k t j) ∷ []
 
 -- the terms up to the one after t have no fewer leaders than those up to t
 abbrev pub keeps : ℕ → ℕ → ℕ → ℕ → ℕ → List Lit

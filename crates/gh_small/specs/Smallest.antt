@@ -8,9 +8,9 @@ use Rattle.gh_path.specs.declared.condition.Condition as kept
 use Rattle.gh_symb.specs.Symbolic.{symbolic_of}
 use Rattle.gh_symb.specs.Formulas.{problem}
 use Rattle.gh_trace.specs.Traces.{State}
-use Rattle.gh_trace.specs.Replay.{Drawn, Refutes}
+use Rattle.gh_trace.specs.Replay.{Drawn, IsDrawnCounterexample}
 use Rattle.gh_trace.specs.Kept.{drawn_of, HasNoCounterexample}
-use Rattle.gh_model.specs.TraceLaws.{IsCounterexample}
+use Rattle.gh_trace.specs.Validity.{IsCounterexample}
 use Rattle.gh_small.specs.Models.{IsLowest}
 use Rattle.gh_small.specs.declared.found.Smallest.{Smallest}
 
@@ -21,12 +21,14 @@ first_cells (x ∷ xs) = len x.state.heap
 
 -- no counterexample of the condition has fewer cells in its first heap
 abbrev pub IsLeast : Program → Condition → ℕ → Type 0
-IsLeast P c cells = (proc : Procedure) → IsOf P c proc → (x : State) (ys : List State) → IsCounterexample P proc c x ys → cells ≤ len x.heap
+IsLeast P c cells =
+    (proc : Procedure) → IsOf P c proc → (x : State) (ys : List State) → IsCounterexample P proc c x ys
+    → cells ≤ len x.heap
 
 -- the trace is a counterexample with so many cells in its first heap, and none has fewer; where there is a cell, the
 -- section shows that
 pub record IsSmallest (P : Program) (r : kept.Condition) (s : Smallest) : Type 0 where
-  pub counterexample : Refutes P (condition_of r) (drawn_of s.trace)
+  pub counterexample : IsDrawnCounterexample P (condition_of r) (drawn_of s.trace)
   pub count : s.cells ≡ first_cells (drawn_of s.trace)
   pub least : IsLeast P (condition_of r) s.cells
   pub lowest : HoldsFor P r (λ P proc c. IsLowest (problem (symbolic_of P proc c)) s.cells s.section)
@@ -38,4 +40,6 @@ IsSmallestFound P r (Some s) = IsSmallest P r s
 
 -- nothing is found exactly where the condition has no counterexample
 abbrev pub FoundIsExact : Type 0
-FoundIsExact = (P : Program) (r : kept.Condition) (found : Option Smallest) → IsSmallestFound P r found → (found ≡ None) ↔ HasNoCounterexample P r
+FoundIsExact =
+    (P : Program) (r : kept.Condition) (found : Option Smallest) → IsSmallestFound P r found
+    → (found ≡ None) ↔ HasNoCounterexample P r

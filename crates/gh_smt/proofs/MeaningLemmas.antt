@@ -1,5 +1,6 @@
 -- The truth of literals in the interpretations of scripts and in those of clauses.
-use Rattle.std.proofs.Common.{◌≡◌, ℕ, zero, suc, List, [], ◌∷◌, Bool, true, false, nat_eq, ◌&&◌, ◌||◌, refl, ◌∙◌, ap, arith, eq-eqb, eqb-true, inl, inr}
+use Rattle.std.proofs.Common.{◌≡◌, ℕ, zero, suc, List, [], ◌∷◌, Bool, true, false, nat_eq, ◌&&◌, ◌||◌, refl, ◌∙◌, ap}
+use Rattle.std.proofs.Common.{arith, eq-eqb, eqb-true, inl, inr}
 use Rattle.std.specs.Prelude.{Any, Contains}
 use Rattle.std.proofs.lemmas.Bool.{false≢true}
 use Rattle.gh_base.proofs.ListLemmas.{either_holds}
@@ -25,20 +26,26 @@ right : (a b : Bool) → b ≡ true → (a || b) ≡ true
 right true b h = refl
 right false b h = h
 
-contained : {X : Type 0} (same : X → X → Bool) → ((x y : X) → same x y ≡ true → x ≡ y) → (xs : List X) (x : X) → has same xs x ≡ true → Contains xs x
+contained : {X : Type 0} (same : X → X → Bool) → ((x y : X) → same x y ≡ true → x ≡ y) → (xs : List X) (x : X)
+    → has same xs x ≡ true → Contains xs x
 unfolding has
 contained same one [] x h = absurd (false≢true h)
 contained {X} same one (y ∷ ys) x h =
     let put : Contains ys x → Contains (y ∷ ys) x = λ k. (suc k.0, omega (arith, k.1), k.2) in
-    elim (either_holds (same y x) (has same ys x) h) [ inl e ↦ (zero, omega arith, one y x e) | inr e ↦ put (contained same one ys x e) ]
+    elim (either_holds (same y x) (has same ys x) h)
+    [ inl e ↦ (zero, omega arith, one y x e) | inr e ↦ put (contained same one ys x e) ]
 
-found : {X : Type 0} (same : X → X → Bool) → ((x : X) → same x x ≡ true) → (xs : List X) (x : X) → Contains xs x → has same xs x ≡ true
+found : {X : Type 0} (same : X → X → Bool) → ((x : X) → same x x ≡ true) → (xs : List X) (x : X) → Contains xs x
+    → has same xs x ≡ true
 unfolding has
 found same itself [] x h = absurd (omega (arith, h.1))
-found same itself (y ∷ ys) x (zero, h, e) = ap (λ z. same z x || has same ys x) e ∙ ap (λ b. b || has same ys x) (itself x)
-found same itself (y ∷ ys) x (suc k, h, e) = right (same y x) (has same ys x) (found same itself ys x (k, omega (arith, h), e))
+found same itself (y ∷ ys) x (zero, h, e) =
+    ap (λ z. same z x || has same ys x) e ∙ ap (λ b. b || has same ys x) (itself x)
+found same itself (y ∷ ys) x (suc k, h, e) =
+    right (same y x) (has same ys x) (found same itself ys x (k, omega (arith, h), e))
 
-has_says : {X : Type 0} (same : X → X → Bool) → ((x y : X) → same x y ≡ true → x ≡ y) → ((x : X) → same x x ≡ true) → (xs : List X) (x : X) → Says (has same xs x) (Contains xs x)
+has_says : {X : Type 0} (same : X → X → Bool) → ((x y : X) → same x y ≡ true → x ≡ y) → ((x : X) → same x x ≡ true)
+    → (xs : List X) (x : X) → Says (has same xs x) (Contains xs x)
 has_says same one itself xs x = record { true_is = contained same one xs x; is_true = found same itself xs x }
 
 -- tests of numbers, pairs and triples
@@ -79,7 +86,8 @@ itself_pair x = and_true (nat_eq x.0 x.0) (nat_eq x.1 x.1) (itself_number x.0) (
 
 itself_triple : (x : ℕ × ℕ × ℕ) → triple_test x x ≡ true
 itself_triple x =
-    and_true (nat_eq x.0 x.0) (nat_eq x.1 x.1 && nat_eq x.2 x.2) (itself_number x.0) (and_true (nat_eq x.1 x.1) (nat_eq x.2 x.2) (itself_number x.1) (itself_number x.2))
+    and_true (nat_eq x.0 x.0) (nat_eq x.1 x.1 && nat_eq x.2 x.2) (itself_number x.0)
+    (and_true (nat_eq x.1 x.1) (nat_eq x.2 x.2) (itself_number x.1) (itself_number x.2))
 
 -- the structure of an interpretation: terms are of one class where their numbers are one
 smt_table : SmtModel → Atom → Bool
@@ -103,8 +111,12 @@ is_congruence s m =
 
 atom_says : (m : SmtModel) (a : Atom) → Says (atom_truth (structure_of m) a) (IsAtomTrue m a)
 unfolding structure_of smt_table
-atom_says m (Eq a b) = record { true_is = same_number (m.location a.0) (m.location b.0); is_true = eq-eqb (m.location a.0) (m.location b.0) }
-atom_says m (Btwn v x y z) = has_says triple_test same_triple itself_triple (m.between v) (m.location x.0, m.location y.0, m.location z.0)
+atom_says m (Eq a b) = record {
+  true_is = same_number (m.location a.0) (m.location b.0);
+  is_true = eq-eqb (m.location a.0) (m.location b.0);
+}
+atom_says m (Btwn v x y z) =
+    has_says triple_test same_triple itself_triple (m.between v) (m.location x.0, m.location y.0, m.location z.0)
 atom_says m (Hop v x y) = has_says pair_test same_pair itself_pair (m.hop v) (m.location x.0, m.location y.0)
 atom_says m (Alloc v x) = has_says nat_eq same_number itself_number (m.alloc v) (m.location x.0)
 atom_says m (Def number) = record { true_is = λ h. h; is_true = λ h. h }
@@ -114,10 +126,13 @@ signed_says true b P s = s
 signed_says false true P s = record { true_is = λ h. absurd (false≢true h); is_true = λ h. absurd (h (s.true_is refl)) }
 signed_says false false P s = record { true_is = λ h holds. false≢true (s.is_true holds); is_true = λ h. refl }
 
-pub any_weaker : {X : Type 0} (P Q : X → Type 0) (xs : List X) → ((x : X) → Contains xs x → P x → Q x) → Any P xs → Any Q xs
+pub any_weaker : {X : Type 0} (P Q : X → Type 0) (xs : List X) → ((x : X) → Contains xs x → P x → Q x) → Any P xs
+    → Any Q xs
 any_weaker P Q xs f (k, x, h, e, holds) = (k, x, h, e, f x (k, h, e) holds)
 
-pub structure_clause : (m : SmtModel) (clause : List Lit) → IsAssertionTrue m clause → ground.IsClauseTrue (structure_of m) clause
+pub structure_clause : (m : SmtModel) (clause : List Lit) → IsAssertionTrue m clause
+    → ground.IsClauseTrue (structure_of m) clause
 structure_clause m clause h =
     any_weaker (IsLitTrue m) (ground.IsLitTrue (structure_of m)) clause
-    (λ l c p. (signed_says l.positive (atom_truth (structure_of m) l.atom) (IsAtomTrue m l.atom) (atom_says m l.atom)).is_true p) h
+    (λ l c p. (signed_says l.positive (atom_truth (structure_of m) l.atom) (IsAtomTrue m l.atom)
+    (atom_says m l.atom)).is_true p) h

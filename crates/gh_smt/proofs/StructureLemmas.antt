@@ -1,8 +1,10 @@
 -- The interpretation of a script that a structure gives, where its equality is a congruence.
-use Rattle.std.proofs.Common.{◌≡◌, ℕ, zero, suc, ◌<◌, List, [], ◌∷◌, ◌++◌, Bool, true, false, refl, sym, ◌∙◌, ap, subst, arith, eq-eqb, eqb-true, inl, inr, ◌⊎◌}
+use Rattle.std.proofs.Common.{◌≡◌, ℕ, zero, suc, ◌<◌, List, [], ◌∷◌, ◌++◌, Bool, true, false, refl, sym, ◌∙◌, ap, subst}
+use Rattle.std.proofs.Common.{arith, eq-eqb, eqb-true, inl, inr, ◌⊎◌}
 use Rattle.std.specs.Prelude.{Contains}
 use Rattle.std.proofs.lemmas.Bool.{false≢true, cases_lt}
-use Rattle.std.proofs.lemmas.List.Elements.{Contains-append_left, Contains-append_right, Contains-append_cases, All-contains}
+use Rattle.std.proofs.lemmas.List.Elements.{Contains-append_left, Contains-append_right, Contains-append_cases}
+use Rattle.std.proofs.lemmas.List.Elements.{All-contains}
 use Rattle.gh_base.specs.declared.atom.Atom.{Atom}
 use Rattle.gh_base.specs.declared.atom.Atom.TheVariants.{Eq, Btwn, Hop, Alloc, Def}
 use Rattle.gh_base.specs.declared.atom.Lit.{Lit}
@@ -37,7 +39,8 @@ collected f (suc k) = f k ++ collected f k
 at_last : (k n : ℕ) → k < suc n → (k ≡ n) ⊎ (k < n)
 at_last k n h = elim (cases_lt k n) [ inl l ↦ inr l | inr l ↦ inl (omega arith) ]
 
-collected_there : {X : Type 0} (f : ℕ → List X) (n k : ℕ) (x : X) → k < n → Contains (f k) x → Contains (collected f n) x
+collected_there : {X : Type 0} (f : ℕ → List X) (n k : ℕ) (x : X) → k < n → Contains (f k) x
+    → Contains (collected f n) x
 unfolding collected
 collected_there f zero k x h c = absurd (omega arith)
 collected_there {X} f (suc n) k x h c =
@@ -46,12 +49,15 @@ collected_there {X} f (suc n) k x h c =
       | inr l ↦ Contains-append_right (f n) (collected f n) x (collected_there f n k x l c)
     ]
 
-collected_from : {X : Type 0} (f : ℕ → List X) (n : ℕ) (x : X) → Contains (collected f n) x → (k : ℕ) × (k < n) × Contains (f k) x
+collected_from : {X : Type 0} (f : ℕ → List X) (n : ℕ) (x : X) → Contains (collected f n) x
+    → (k : ℕ) × (k < n) × Contains (f k) x
 unfolding collected
 collected_from f zero x (k, h, e) = absurd (omega (arith, h))
 collected_from {X} f (suc n) x c =
-    let later : (k : ℕ) × (k < n) × Contains (f k) x → (k : ℕ) × (k < suc n) × Contains (f k) x = λ w. (w.0, omega (arith, w.1), w.2) in
-    elim (Contains-append_cases (f n) (collected f n) x c) [ inl h ↦ (n, omega arith, h) | inr h ↦ later (collected_from f n x h) ]
+    let later : (k : ℕ) × (k < n) × Contains (f k) x → (k : ℕ) × (k < suc n) × Contains (f k) x =
+    λ w. (w.0, omega (arith, w.1), w.2) in
+    elim (Contains-append_cases (f n) (collected f n) x c)
+    [ inl h ↦ (n, omega arith, h) | inr h ↦ later (collected_from f n x h) ]
 
 abbrev triples_at : ℕ → (ℕ → ℕ → ℕ → Bool) → (ℕ → ℕ) → ℕ → ℕ → List (ℕ × ℕ × ℕ)
 triples_at n test class x y = collected (λ z. chosen (test x y z) (class x, class y, class z)) n
@@ -66,7 +72,8 @@ pairs n test class = collected (λ x. collected (λ y. chosen (test x y) (class 
 singles : ℕ → (ℕ → Bool) → (ℕ → ℕ) → List ℕ
 singles n test class = collected (λ x. chosen (test x) (class x)) n
 
-triples_there : (n : ℕ) (test : ℕ → ℕ → ℕ → Bool) (class : ℕ → ℕ) (x y z : ℕ) → x < n → y < n → z < n → test x y z ≡ true
+triples_there : (n : ℕ) (test : ℕ → ℕ → ℕ → Bool) (class : ℕ → ℕ) (x y z : ℕ) → x < n → y < n → z < n
+    → test x y z ≡ true
     → Contains (triples n test class) (class x, class y, class z)
 unfolding triples
 triples_there n test class x y z h k l t =
@@ -74,13 +81,15 @@ triples_there n test class x y z h k l t =
     (collected_there (triples_at n test class x) n y _ k
     (collected_there (λ z. chosen (test x y z) (class x, class y, class z)) n z _ l (chosen_there (test x y z) _ t)))
 
-pairs_there : (n : ℕ) (test : ℕ → ℕ → Bool) (class : ℕ → ℕ) (x y : ℕ) → x < n → y < n → test x y ≡ true → Contains (pairs n test class) (class x, class y)
+pairs_there : (n : ℕ) (test : ℕ → ℕ → Bool) (class : ℕ → ℕ) (x y : ℕ) → x < n → y < n → test x y ≡ true
+    → Contains (pairs n test class) (class x, class y)
 unfolding pairs
 pairs_there n test class x y h k t =
     collected_there (λ x. collected (λ y. chosen (test x y) (class x, class y)) n) n x _ h
     (collected_there (λ y. chosen (test x y) (class x, class y)) n y _ k (chosen_there (test x y) _ t))
 
-singles_there : (n : ℕ) (test : ℕ → Bool) (class : ℕ → ℕ) (x : ℕ) → x < n → test x ≡ true → Contains (singles n test class) (class x)
+singles_there : (n : ℕ) (test : ℕ → Bool) (class : ℕ → ℕ) (x : ℕ) → x < n → test x ≡ true
+    → Contains (singles n test class) (class x)
 unfolding singles
 singles_there n test class x h t = collected_there (λ x. chosen (test x) (class x)) n x _ h (chosen_there (test x) _ t)
 
@@ -97,7 +106,8 @@ record ComesFrom (n : ℕ) (test : ℕ → ℕ → ℕ → Bool) (class : ℕ �
   y_is : class y ≡ b
   z_is : class z ≡ c
 
-triples_from : (n : ℕ) (test : ℕ → ℕ → ℕ → Bool) (class : ℕ → ℕ) (a b c : ℕ) → Contains (triples n test class) (a, b, c) → ComesFrom n test class a b c
+triples_from : (n : ℕ) (test : ℕ → ℕ → ℕ → Bool) (class : ℕ → ℕ) (a b c : ℕ) → Contains (triples n test class) (a, b, c)
+    → ComesFrom n test class a b c
 unfolding triples
 triples_from n test class a b c h =
     let u = collected_from (λ x. collected (triples_at n test class x) n) n (a, b, c) h in
@@ -126,7 +136,8 @@ pairs_from n test class a b h =
     let e = chosen_from (test u.0 v.0) (class u.0, class v.0) (a, b) v.2 in
     (u.0, v.0, u.1, v.1, e.0, ap (λ (t : ℕ × ℕ). t.0) e.1, ap (λ (t : ℕ × ℕ). t.1) e.1)
 
-singles_from : (n : ℕ) (test : ℕ → Bool) (class : ℕ → ℕ) (a : ℕ) → Contains (singles n test class) a → (x : ℕ) × (x < n) × (test x ≡ true) × (class x ≡ a)
+singles_from : (n : ℕ) (test : ℕ → Bool) (class : ℕ → ℕ) (a : ℕ) → Contains (singles n test class) a
+    → (x : ℕ) × (x < n) × (test x ≡ true) × (class x ≡ a)
 unfolding singles
 singles_from n test class a h =
     let u = collected_from (λ x. chosen (test x) (class x)) n a h in
@@ -144,15 +155,21 @@ model_of s m =
       def = λ n. m.table (Def n);
     }
 
-model_says : (s : Sizes) (m : Interpretation) → IsCongruence s m → (a : Atom) → IsInRange s a → Says (atom_truth m a) (IsAtomTrue (model_of s m) a)
+model_says : (s : Sizes) (m : Interpretation) → IsCongruence s m → (a : Atom) → IsInRange s a
+    → Says (atom_truth m a) (IsAtomTrue (model_of s m) a)
 unfolding model_of
-model_says s m g (Eq a b) r = record { true_is = eqb-true (m.class a.0) (m.class b.0); is_true = eq-eqb (m.class a.0) (m.class b.0) }
+model_says s m g (Eq a b) r =
+    record { true_is = eqb-true (m.class a.0) (m.class b.0); is_true = eq-eqb (m.class a.0) (m.class b.0) }
 model_says s m g (Btwn v x y z) r =
     record {
-      true_is = triples_there s.terms (λ x y z. m.table (Btwn v (term x) (term y) (term z))) m.class x.0 y.0 z.0 r.1 r.2 r.3;
+      true_is =
+          triples_there s.terms (λ x y z. m.table (Btwn v (term x) (term y) (term z))) m.class x.0 y.0 z.0 r.1 r.2 r.3;
       is_true = λ c.
-          let f = triples_from s.terms (λ x y z. m.table (Btwn v (term x) (term y) (term z))) m.class (m.class x.0) (m.class y.0) (m.class z.0) c in
-          sym (g.btwn v (term f.x) (term f.y) (term f.z) x y z (r.0, f.x_below, f.y_below, f.z_below) r f.x_is f.y_is f.z_is) ∙ f.passes;
+          let f =
+          triples_from s.terms (λ x y z. m.table (Btwn v (term x) (term y) (term z))) m.class (m.class x.0)
+          (m.class y.0) (m.class z.0) c in
+          sym (g.btwn v (term f.x) (term f.y) (term f.z) x y z (r.0, f.x_below, f.y_below, f.z_below) r f.x_is f.y_is
+          f.z_is) ∙ f.passes;
     }
 model_says s m g (Hop v x y) r =
     record {
@@ -170,7 +187,9 @@ model_says s m g (Alloc v x) r =
     }
 model_says s m g (Def number) r = record { true_is = λ h. h; is_true = λ h. h }
 
-pub model_clause : (s : Sizes) (m : Interpretation) → IsCongruence s m → (clause : List Lit) → AreInRange s clause → ground.IsClauseTrue m clause → IsAssertionTrue (model_of s m) clause
+pub model_clause : (s : Sizes) (m : Interpretation) → IsCongruence s m → (clause : List Lit) → AreInRange s clause
+    → ground.IsClauseTrue m clause → IsAssertionTrue (model_of s m) clause
 model_clause s m g clause r h =
     any_weaker (ground.IsLitTrue m) (IsLitTrue (model_of s m)) clause
-    (λ l c p. (signed_says l.positive (atom_truth m l.atom) (IsAtomTrue (model_of s m) l.atom) (model_says s m g l.atom (All-contains (λ k. IsInRange s k.atom) clause l r c))).true_is p) h
+    (λ l c p. (signed_says l.positive (atom_truth m l.atom) (IsAtomTrue (model_of s m) l.atom)
+    (model_says s m g l.atom (All-contains (λ k. IsInRange s k.atom) clause l r c))).true_is p) h

@@ -8,8 +8,7 @@ use Rattle.gh_path.specs.Conditions.{Condition, IsCondition, IsOf}
 use Rattle.gh_symb.specs.Symbolic.{symbolic_of}
 use Rattle.gh_symb.specs.Formulas.{problem}
 use Rattle.gh_inst.specs.Models.{IsModel}
-use Rattle.gh_trace.specs.Traces.{State}
-use Rattle.gh_trace.specs.Validity.{AreCounterexample, IsConditionValid}
+use Rattle.gh_trace.specs.Validity.{HasCounterexample, IsConditionValid}
 use Rattle.gh_smt.specs.Scripts.{IsScript, script_of}
 use Rattle.gh_smt.specs.Texts.{script_text}
 use Rattle.gh_smt.specs.Meaning.{IsSatisfiable}
@@ -21,9 +20,6 @@ HasModel p = (m : Interpretation) × IsModel p m
 abbrev pub ScriptsMeanModels : Type 0
 ScriptsMeanModels = (p : Problem) → IsProblem p → IsSatisfiable (script_of p) ↔ HasModel p
 
-abbrev pub HasCounterexample : Program → Condition → Type 0
-HasCounterexample P c = (xs : List State) × AreCounterexample P c xs
-
 -- satisfiable exactly where the condition has a counterexample, unsatisfiable exactly where it is valid
 pub record DecidesCondition (P : Program) (c : Condition) (script : Problem) : Type 0 where
   pub satisfiable : IsSatisfiable script ↔ HasCounterexample P c
@@ -32,13 +28,15 @@ pub record DecidesCondition (P : Program) (c : Condition) (script : Problem) : T
 -- and so for each condition of which these are the clauses
 abbrev pub DecidesItsConditions : Problem → Problem → Type 0
 DecidesItsConditions clauses script =
-    (P : Program) (proc : Procedure) (c : Condition) → IsTyped P → IsCondition P c → IsOf P c proc → clauses ≡ problem (symbolic_of P proc c)
+    (P : Program) (proc : Procedure) (c : Condition) → IsTyped P → IsCondition P c → IsOf P c proc
+    → clauses ≡ problem (symbolic_of P proc c)
     → DecidesCondition P c script
 
 -- the script of a condition's clauses decides the condition
 abbrev pub ScriptsDecide : Type 0
 ScriptsDecide =
-    (P : Program) (proc : Procedure) (c : Condition) → IsTyped P → IsCondition P c → IsOf P c proc → IsProblem (problem (symbolic_of P proc c))
+    (P : Program) (proc : Procedure) (c : Condition) → IsTyped P → IsCondition P c → IsOf P c proc
+    → IsProblem (problem (symbolic_of P proc c))
     → DecidesCondition P c (script_of (problem (symbolic_of P proc c)))
 
 -- two scripts that have one text are one

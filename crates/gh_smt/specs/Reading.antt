@@ -79,7 +79,8 @@ pub record SpellsSpaced (s : Sizes) (text : List ℕ) (l : Lit) (rest : List ℕ
   pub lit : SpellsLit s middle l rest
 
 -- the texts of items of which W holds, one after the other, and the text `end` after them
-pub record SpellsItems {X : Type 0} (print : X → List ℕ) (W : X → Type 0) (end text : List ℕ) (xs : List X) (rest : List ℕ)
+pub record SpellsItems {X : Type 0} (print : X → List ℕ) (W : X → Type 0) (end text : List ℕ) (xs : List X)
+    (rest : List ℕ)
     : Type 0 where
   pub front : text ≡ flat_map print xs ++ (end ++ rest)
   pub spelled : All W xs

@@ -1,8 +1,9 @@
 //! Small grounds, with models that make all true and sections that the checker accepts.
 
-ghost use Rattle.std.specs.Prelude.{◌+◌, ◌<◌, ◌≤◌, length};
+ghost use Rattle.std.specs.Prelude.{◌+◌, ◌<◌, ◌≤◌, IfOk, length};
 ghost use Rattle.gh_ground.specs.Solving.{IsAnswer};
 
+mod alone;
 mod plain;
 mod random;
 
@@ -11,7 +12,7 @@ use gh_base::clause::Clause;
 use gh_base::ground::Ground;
 use gh_base::structure::Structure;
 use gh_check::check::check_log;
-use gh_ground::solve::{Answer, solve};
+use gh_ground::solve::{Answer, solve, solve_alone};
 use gh_inst::violation::violated;
 use gh_log::lines::{LogLine, Section};
 use gh_seek::known::Known;
@@ -80,8 +81,30 @@ fn judged(alloc: Global, ground: &Ground, answer: Answer) -> Verdict
     Verdict::Wrong
 }
 
+// By which searches a ground is decided.
+#[derive(Clone, Copy)]
+enum Way {
+    // as the program does, which asks gh_seek first
+    Sought,
+    // with nothing found ahead
+    Alone,
+}
+
+fn answer_by(alloc: Global, ground: &Ground, way: Way) -> Result<Answer, AllocError>
+    ensures { IfOk result (λ answer. IsAnswer ground.now answer) }
+{
+    match way {
+        Way::Sought => Ok(solve(alloc, ground)?),
+        Way::Alone => Ok(solve_alone(alloc, ground)?),
+    }
+}
+
+fn decided_by(alloc: Global, ground: &Ground, way: Way) -> Result<Verdict, AllocError> {
+    Ok(judged(alloc, ground, answer_by(alloc, ground, way)?))
+}
+
 fn decided(alloc: Global, ground: &Ground) -> Result<Verdict, AllocError> {
-    Ok(judged(alloc, ground, solve(alloc, ground)?))
+    decided_by(alloc, ground, Way::Sought)
 }
 
 fn is_refuted(alloc: Global, ground: &Ground) -> Result<bool, AllocError> {

@@ -1,5 +1,6 @@
 -- Kinds that are listed, and encoded one by one.
-use Rattle.std.specs.Prelude.{◌≡◌, ◌≢◌, ℕ, zero, suc, ◌+◌, ◌<◌, ◌≤◌, List, [], ◌∷◌, ◌++◌, map, length, take, get_or, slice_index_or, Contains, count_by, true, false}
+use Rattle.std.specs.Prelude.{◌≡◌, ◌≢◌, ℕ, zero, suc, ◌+◌, ◌<◌, ◌≤◌, List, [], ◌∷◌, ◌++◌, map, length, take, get_or}
+use Rattle.std.specs.Prelude.{slice_index_or, Contains, count_by, true, false}
 use Rattle.std.specs.List.{list_any}
 use Rattle.std.proofs.Common.{refl, sym, ◌∙◌, ap, subst, arith, inl, inr}
 use Rattle.std.proofs.lemmas.List.{take_more, map-append, length-map, length-take-le, get_or-map, get_or-take, take-map}
@@ -24,10 +25,12 @@ null_listed = record {
 }
   where
     only : (n k : ℕ) → k < 1 → slice_index_or (null ∷ []) k (value n) ≡ value n → n < 0
-    only n k within is = let first : k ≡ 0 = omega (arith, within) in let no : null ≡ value n = ap (λ i. slice_index_or (null ∷ []) i (value n)) (sym first) ∙ is in absurd cc
+    only n k within is = let first : k ≡ 0 = omega (arith, within) in
+        let no : null ≡ value n = ap (λ i. slice_index_or (null ∷ []) i (value n)) (sym first) ∙ is in absurd cc
 
 -- a kind that isn't there yet is listed last
-listed_more : (ks : List Kind) (k : Kind) → AreListed ks → (Contains ks k → ⊥) → ((n : ℕ) → Contains (ks ++ k ∷ []) (value n) → n < count_by is_value (ks ++ k ∷ [])) → AreListed (ks ++ k ∷ [])
+listed_more : (ks : List Kind) (k : Kind) → AreListed ks → (Contains ks k → ⊥)
+    → ((n : ℕ) → Contains (ks ++ k ∷ []) (value n) → n < count_by is_value (ks ++ k ∷ [])) → AreListed (ks ++ k ∷ [])
 listed_more ks k listed fresh numbered = record {
   first = record { rest = listed.first.rest ++ k ∷ []; is = ap (λ q. q ++ k ∷ []) listed.first.is };
   numbered = numbered;
@@ -35,7 +38,8 @@ listed_more ks k listed fresh numbered = record {
       (λ i d within same. fresh (subst (Contains ks) same (Contains-get_or ks i d within)));
 }
 
-counted : (ks : List Kind) (k : Kind) → count_by is_value (ks ++ k ∷ []) ≡ count_by is_value ks + count_by is_value (k ∷ [])
+counted : (ks : List Kind) (k : Kind)
+    → count_by is_value (ks ++ k ∷ []) ≡ count_by is_value ks + count_by is_value (k ∷ [])
 counted ks k = sum_by-append _ ks (k ∷ [])
 
 pub value_listed : (ks : List Kind) → AreListed ks → AreListed (with_value ks)
@@ -52,11 +56,14 @@ its_own m n = search arith
 
 not_there : (ks : List Kind) (i x : ℕ) → list_any (same_kind (next i x)) ks ≡ false → Contains ks (next i x) → ⊥
 not_there ks i x none there =
-    let here : same_kind (next i x) (get_or ks there.0 (next i x)) ≡ true = ap (same_kind (next i x)) there.2 ∙ its_own i x in
-    let any : list_any (same_kind (next i x)) ks ≡ true = list_any_at (same_kind (next i x)) ks there.0 (next i x) there.1 here in
+    let here : same_kind (next i x) (get_or ks there.0 (next i x)) ≡ true =
+    ap (same_kind (next i x)) there.2 ∙ its_own i x in
+    let any : list_any (same_kind (next i x)) ks ≡ true =
+    list_any_at (same_kind (next i x)) ks there.0 (next i x) there.1 here in
     absurd cc
 
-pub next_listed : (ks : List Kind) (i x : ℕ) → AreListed ks → list_any (same_kind (next i x)) ks ≡ false → AreListed (ks ++ next i x ∷ [])
+pub next_listed : (ks : List Kind) (i x : ℕ) → AreListed ks → list_any (same_kind (next i x)) ks ≡ false
+    → AreListed (ks ++ next i x ∷ [])
 next_listed ks i x listed none =
     listed_more ks (next i x) listed (not_there ks i x none)
     (λ m there. elim (Contains-push_cases ks (next i x) (value m) there) [
@@ -66,12 +73,16 @@ next_listed ks i x listed none =
 
 pub first_encoded : (ks : List kept.Kind) → BeginsWithNull (map kind_of ks) → null ∷ [] ≡ map kind_of (take 1 ks)
 first_encoded [] begins = let no : [] ≡ null ∷ begins.rest = begins.is in absurd cc
-first_encoded (k ∷ ks) begins = let is : kind_of k ∷ map kind_of ks ≡ null ∷ begins.rest = begins.is in let same : kind_of k ≡ null = cc in ap (λ j. j ∷ []) (sym same)
+first_encoded (k ∷ ks) begins = let is : kind_of k ∷ map kind_of ks ≡ null ∷ begins.rest = begins.is in
+    let same : kind_of k ≡ null = cc in ap (λ j. j ∷ []) (sym same)
 
-pub encoded_length : (ks : List kept.Kind) (i : ℕ) (old : List TermKind) → i ≤ length ks → map plain_kind old ≡ map kind_of (take i ks) → length old ≡ i
-encoded_length ks i old within encoded = sym (length-map old plain_kind) ∙ ap length encoded ∙ length-map (take i ks) kind_of ∙ length-take-le i ks within
+pub encoded_length : (ks : List kept.Kind) (i : ℕ) (old : List TermKind) → i ≤ length ks
+    → map plain_kind old ≡ map kind_of (take i ks) → length old ≡ i
+encoded_length ks i old within encoded =
+    sym (length-map old plain_kind) ∙ ap length encoded ∙ length-map (take i ks) kind_of ∙ length-take-le i ks within
 
-next_at : (ks : List kept.Kind) (i v x : ℕ) → AreSuccessors 256 256 (map kind_of ks) → i < length ks → Next v x ≡ get_or ks i (Next v x) → (v < 256) × (x < 256)
+next_at : (ks : List kept.Kind) (i v x : ℕ) → AreSuccessors 256 256 (map kind_of ks) → i < length ks
+    → Next v x ≡ get_or ks i (Next v x) → (v < 256) × (x < 256)
 next_at [] i v x short within is = (omega (arith, within), omega (arith, within))
 next_at (k ∷ ks) zero v x short within is = first k is short
   where
@@ -86,23 +97,30 @@ next_at (k ∷ ks) zero v x short within is = first k is short
         (omega (arith, b, same), omega (arith, a, of))
 next_at (k ∷ ks) (suc i) v x short within is = next_at ks i v x (later k short) (omega (arith, within)) is
   where
-    later : (j : kept.Kind) → AreSuccessors 256 256 (kind_of j ∷ map kind_of ks) → AreSuccessors 256 256 (map kind_of ks)
+    later : (j : kept.Kind) → AreSuccessors 256 256 (kind_of j ∷ map kind_of ks)
+        → AreSuccessors 256 256 (map kind_of ks)
     later Null h = h
     later (Value n) h = h
     later (Next w y) h = h.2
 
 -- the numbers of a listed kind are small where few kinds are listed
-pub short_at : (ks : List kept.Kind) (i : ℕ) (k : kept.Kind) → AreListed (map kind_of ks) → AreSuccessors 256 256 (map kind_of ks) → length ks < 65536 → i < length ks → k ≡ get_or ks i k → IsShort k
+pub short_at : (ks : List kept.Kind) (i : ℕ) (k : kept.Kind) → AreListed (map kind_of ks)
+    → AreSuccessors 256 256 (map kind_of ks) → length ks < 65536 → i < length ks → k ≡ get_or ks i k → IsShort k
 short_at ks i Null listed short few within is = tt
 short_at ks i (Next v x) listed short few within is = next_at ks i v x short within is
 short_at ks i (Value n) listed short few within is =
-    let there : Contains (map kind_of ks) (value n) =
-    (i, omega (arith, within, length-map ks kind_of), get_or-map kind_of ks i (Value n) (value n) within ∙ ap kind_of (sym is)) in
+    let there : Contains (map kind_of ks) (value n) = (
+      i,
+      omega (arith, within, length-map ks kind_of),
+      get_or-map kind_of ks i (Value n) (value n) within ∙ ap kind_of (sym is),
+    ) in
     omega (arith, listed.numbered n there, count_by-le-length is_value (map kind_of ks), length-map ks kind_of, few)
 
 -- a kind at a place isn't encoded before
-fresh_at : (ks : List kept.Kind) (i : ℕ) (k : kept.Kind) → AreListed (map kind_of ks) → i < length ks → k ≡ get_or ks i k →
-    (old : List TermKind) (kind : TermKind) → map plain_kind old ≡ map kind_of (take i ks) → plain_kind kind ≡ kind_of k → Contains old kind → ⊥
+fresh_at : (ks : List kept.Kind) (i : ℕ) (k : kept.Kind) → AreListed (map kind_of ks) → i < length ks
+    → k ≡ get_or ks i k →
+    (old : List TermKind) (kind : TermKind) → map plain_kind old ≡ map kind_of (take i ks) → plain_kind kind ≡ kind_of k
+    → Contains old kind → ⊥
 fresh_at ks i k listed within is old kind encoded same there =
     let n = there.0 in
     let size : length old ≡ i = encoded_length ks i old (omega (arith, within)) encoded in
@@ -113,11 +131,16 @@ fresh_at ks i k listed within is old kind encoded same there =
     let two : get_or (map kind_of (take i ks)) n d ≡ get_or (map kind_of ks) n d =
     ap (λ xs. get_or xs n d) (sym (take-map kind_of i ks)) ∙ get_or-take i (map kind_of ks) n d before in
     let three : get_or (map kind_of ks) i d ≡ d = get_or-map kind_of ks i k d within ∙ ap kind_of (sym is) in
-    listed.apart n i d before (omega (arith, within, length-map ks kind_of)) (sym two ∙ ap (λ xs. get_or xs n d) (sym encoded) ∙ one ∙ sym three)
+    listed.apart n i d before (omega (arith, within, length-map ks kind_of))
+    (sym two ∙ ap (λ xs. get_or xs n d) (sym encoded) ∙ one ∙ sym three)
 
-pub encoded_more : (ks : List kept.Kind) (i : ℕ) (k : kept.Kind) → AreListed (map kind_of ks) → i < length ks → k ≡ get_or ks i k → (old new : List TermKind) (kind : TermKind) →
-    map plain_kind old ≡ map kind_of (take i ks) → plain_kind kind ≡ kind_of k → ((Contains old kind → ⊥) → new ≡ old ++ kind ∷ []) → map plain_kind new ≡ map kind_of (take (i + 1) ks)
+pub encoded_more : (ks : List kept.Kind) (i : ℕ) (k : kept.Kind) → AreListed (map kind_of ks) → i < length ks
+    → k ≡ get_or ks i k → (old new : List TermKind) (kind : TermKind) →
+    map plain_kind old ≡ map kind_of (take i ks) → plain_kind kind ≡ kind_of k
+    → ((Contains old kind → ⊥) → new ≡ old ++ kind ∷ []) → map plain_kind new ≡ map kind_of (take (i + 1) ks)
 encoded_more ks i k listed within is old new kind encoded same added =
-    ap (map plain_kind) (added (fresh_at ks i k listed within is old kind encoded same)) ∙ map-append plain_kind old (kind ∷ [])
+    ap (map plain_kind) (added (fresh_at ks i k listed within is old kind encoded same))
+    ∙ map-append plain_kind old (kind ∷ [])
     ∙ ap (λ ts. ts ++ plain_kind kind ∷ []) encoded ∙ ap (λ j. map kind_of (take i ks) ++ j ∷ []) same
-    ∙ sym (ap (map kind_of) (take_more ks i k within ∙ ap (λ j. take i ks ++ j ∷ []) (sym is)) ∙ map-append kind_of (take i ks) (k ∷ []))
+    ∙ sym (ap (map kind_of) (take_more ks i k within ∙ ap (λ j. take i ks ++ j ∷ []) (sym is))
+    ∙ map-append kind_of (take i ks) (k ∷ []))

@@ -1,5 +1,5 @@
 pub mod TableLemmas
-pub mod RoundLemmas
+pub mod WhileLemmas
 pub mod GrowLemmas
 pub mod StepLemmas
 pub mod CountLemmas

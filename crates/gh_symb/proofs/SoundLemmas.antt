@@ -1,5 +1,6 @@
 -- A walk gives variables and successors terms that are listed.
-use Rattle.std.specs.Prelude.{◌≡◌, ℕ, zero, suc, ◌+◌, ◌<◌, ◌≤◌, ◌||◌, List, [], ◌∷◌, ◌++◌, length, Bool, true, false, Option, Some, None, cond, unwrap_or, nat_lt, slice_get}
+use Rattle.std.specs.Prelude.{◌≡◌, ℕ, zero, suc, ◌+◌, ◌<◌, ◌≤◌, ◌||◌, List, [], ◌∷◌, ◌++◌, length, Bool, true, false}
+use Rattle.std.specs.Prelude.{Option, Some, None, cond, unwrap_or, nat_lt, slice_get}
 use Rattle.std.specs.List.{position_or_len, list_any}
 use Rattle.std.specs.Str.{bytes_eq}
 use Rattle.std.proofs.Common.{refl, sym, ◌∙◌, ap, subst, arith, append_assoc}
@@ -9,11 +10,15 @@ use Rattle.gh_ast.specs.declared.Operand.{Operand}
 use Rattle.gh_ast.specs.declared.Operand.TheVariants.{Null, Var}
 use Rattle.gh_ast.specs.declared.Expr.{Expr}
 use Rattle.gh_ast.specs.declared.Expr.TheVariants.{Plain, Read}
-use Rattle.gh_ast.specs.Plain.{Test, compare, negation, conjunction, disjunction, Tests, no_tests, test_first}
-use Rattle.gh_ast.specs.Plain.{Formula, empty, comparison, points_to, cell, segment, star, cases, Formulas, no_formulas, formula_first}
+use Rattle.gh_ast.specs.Plain.{Cond, compare, negation, conjunction, disjunction, Conds, no_conds, cond_first}
+use Rattle.gh_ast.specs.Plain.{Assertion, empty, comparison, points_to, cell, segment, star, cases, Assertions}
+use Rattle.gh_ast.specs.Plain.{no_assertions, assertion_first}
 use Rattle.gh_ast.specs.Programs.{Name}
 use Rattle.gh_grass.proofs.Bonds.{same_name}
-use Rattle.gh_path.specs.Terms.{Kind, null, value, next, same_kind, Bindings, unbound, bound, all_bound, Terms, place, added, with_value, used, used_as, term_of, followed, operand_used, operand_term, expr_used, expr_term, exprs_used, exprs_terms, test_walked, tests_walked, walked, all_walked}
+use Rattle.gh_path.specs.Terms.{Kind, null, value, next, same_kind, Bindings, unbound, bound, all_bound, Terms, place}
+use Rattle.gh_path.specs.Terms.{added, with_value, used, used_as, term_of, followed, operand_used, operand_term}
+use Rattle.gh_path.specs.Terms.{expr_used, expr_term, exprs_used, exprs_terms, cond_walked, conds_walked, walked}
+use Rattle.gh_path.specs.Terms.{all_walked}
 use Rattle.gh_symb.specs.Inside.{AreSuccessors}
 
 -- each variable that has a term has one of n terms
@@ -34,13 +39,15 @@ successors_more m n v w l k (next i x ∷ ks) h =
     let version = h.1 in
     (omega (arith, of, l), omega (arith, version, k), successors_more m n v w l k ks h.2)
 
-successors_append : (n v : ℕ) (ks more : List Kind) → AreSuccessors n v ks → AreSuccessors n v more → AreSuccessors n v (ks ++ more)
+successors_append : (n v : ℕ) (ks more : List Kind) → AreSuccessors n v ks → AreSuccessors n v more
+    → AreSuccessors n v (ks ++ more)
 successors_append n v [] more h k = k
 successors_append n v (null ∷ ks) more h k = successors_append n v ks more h k
 successors_append n v (value m ∷ ks) more h k = successors_append n v ks more h k
 successors_append n v (next i x ∷ ks) more h k = (h.0, h.1, successors_append n v ks more h.2 k)
 
-pub successor_at : (n v : ℕ) (ks : List Kind) → AreSuccessors n v ks → (t i x : ℕ) → slice_get ks t ≡ Some (next i x) → (x < n) × (i < v)
+pub successor_at : (n v : ℕ) (ks : List Kind) → AreSuccessors n v ks → (t i x : ℕ) → slice_get ks t ≡ Some (next i x)
+    → (x < n) × (i < v)
 successor_at n v [] h t i x e = absurd cc
 successor_at n v (null ∷ ks) h zero i x e = absurd cc
 successor_at n v (null ∷ ks) h (suc t) i x e = successor_at n v ks h t i x e
@@ -72,16 +79,19 @@ abbrev pub AreBelow : ℕ → List ℕ → Type 0
 AreBelow n [] = Unit {0}
 AreBelow n (t ∷ ts) = (t < n) × AreBelow n ts
 
-pub all_bound_in : (n : ℕ) (b : Bindings) (xs : List Name) (ts : List ℕ) → AreBound n b → AreBelow n ts → AreBound n (all_bound b xs ts)
+pub all_bound_in : (n : ℕ) (b : Bindings) (xs : List Name) (ts : List ℕ) → AreBound n b → AreBelow n ts
+    → AreBound n (all_bound b xs ts)
 all_bound_in n b [] ts h k = h
 all_bound_in n b (x ∷ xs) [] h k = h
 all_bound_in n b (x ∷ xs) (t ∷ ts) h k = all_bound_in n (bound b x t) xs ts (bound_one n b x t h k.0) k.1
 
-pub value_sound : (v : ℕ) (ks : List Kind) → AreSuccessors (length ks) v ks → AreSuccessors (length (with_value ks)) v (with_value ks)
+pub value_sound : (v : ℕ) (ks : List Kind) → AreSuccessors (length ks) v ks
+    → AreSuccessors (length (with_value ks)) v (with_value ks)
 value_sound v ks h =
     let l : length ks ≤ length (with_value ks) = rw (length-append ks) (omega arith) in
     let same : v ≤ v = omega arith in
-    successors_append (length (with_value ks)) v ks _ (successors_more (length ks) (length (with_value ks)) v v l same ks h) tt
+    successors_append (length (with_value ks)) v ks _
+    (successors_more (length ks) (length (with_value ks)) v v l same ks h) tt
 
 pub value_size : (ks : List Kind) → length (with_value ks) ≡ length ks + 1
 value_size ks = length-append ks _
@@ -95,7 +105,13 @@ pub record Extends (s t : Terms) : Type 0 where
   pub sound : Sound s → Sound t
 
 pub extends_same : (s : Terms) → Extends s s
-extends_same s = record { version = refl; more = []; kinds = sym (append-nil s.kinds); bindings = λ x v e. e; sound = λ h. h }
+extends_same s = record {
+  version = refl;
+  more = [];
+  kinds = sym (append-nil s.kinds);
+  bindings = λ x v e. e;
+  sound = λ h. h;
+}
 
 pub extends_onto : {s t u : Terms} → Extends s t → Extends t u → Extends s u
 extends_onto {s} {t} {u} f g = record {
@@ -117,7 +133,8 @@ term_there x s h = by_binding (s.bindings x) (λ t e. h.bindings.at x t e)
     by_binding None k = let some = h.some in omega (arith, some)
     by_binding (Some t) k = k t refl
 
-other_binding : (b : Bindings) (x y : Name) (t v : ℕ) → b x ≡ None → b y ≡ Some v → (c : Bool) → bytes_eq y x ≡ c → cond c (Some t) (b y) ≡ Some v
+other_binding : (b : Bindings) (x y : Name) (t v : ℕ) → b x ≡ None → b y ≡ Some v → (c : Bool) → bytes_eq y x ≡ c
+    → cond c (Some t) (b y) ≡ Some v
 other_binding b x y t v none e true same = let is : y ≡ x = (bytes_eq-Decides y x).0 same in absurd (cc (ap b is))
 other_binding b x y t v none e false differs = e
 
@@ -134,7 +151,10 @@ used_extends x s = by_binding (s.bindings x) refl
       sound = λ h. let size = value_size s.kinds in record {
         some = omega (arith, size);
         successors = value_sound (s.version + 1) s.kinds h.successors;
-        bindings = bound_one (length (with_value s.kinds)) s.bindings x (length s.kinds) (bound_more (length s.kinds) (length (with_value s.kinds)) s.bindings (omega (arith, size)) h.bindings) (omega (arith, size));
+        bindings =
+            bound_one (length (with_value s.kinds)) s.bindings x (length s.kinds)
+            (bound_more (length s.kinds) (length (with_value s.kinds)) s.bindings (omega (arith, size)) h.bindings)
+            (omega (arith, size));
       };
     }
 
@@ -153,7 +173,8 @@ added_more k ks = by_test (list_any (same_kind k) ks)
     by_test true = ([], sym (append-nil ks))
     by_test false = (k ∷ [], refl)
 
-added_sound : (i x v : ℕ) (ks : List Kind) → x < length ks → i < v → AreSuccessors (length ks) v ks → AreSuccessors (length (added (next i x) ks)) v (added (next i x) ks)
+added_sound : (i x v : ℕ) (ks : List Kind) → x < length ks → i < v → AreSuccessors (length ks) v ks
+    → AreSuccessors (length (added (next i x) ks)) v (added (next i x) ks)
 added_sound i x v ks l m h = by_test (list_any (same_kind (next i x)) ks)
   where
     by_test : (b : Bool) → AreSuccessors (length (cond b ks (ks ++ next i x ∷ []))) v (cond b ks (ks ++ next i x ∷ []))
@@ -161,7 +182,9 @@ added_sound i x v ks l m h = by_test (list_any (same_kind (next i x)) ks)
     by_test false =
         let size : length (ks ++ next i x ∷ []) ≡ length ks + 1 = length-append ks _ in
         let same : v ≤ v = omega arith in
-        successors_append (length (ks ++ next i x ∷ [])) v ks (next i x ∷ []) (successors_more (length ks) (length (ks ++ next i x ∷ [])) v v (omega (arith, size)) same ks h) (omega (arith, size, l), m, tt)
+        successors_append (length (ks ++ next i x ∷ [])) v ks (next i x ∷ [])
+        (successors_more (length ks) (length (ks ++ next i x ∷ [])) v v (omega (arith, size)) same ks h)
+        (omega (arith, size, l), m, tt)
 
 pub followed_extends : (x : Name) (s : Terms) → Extends s (followed x s)
 followed_extends x s =
@@ -175,7 +198,8 @@ followed_extends x s =
       bindings = λ y v e. e;
       sound = λ h. let some = h.some in record {
         some = omega (arith, size, some);
-        successors = added_sound s.version (term_of x s) (s.version + 1) s.kinds (term_there x s h) (omega arith) h.successors;
+        successors =
+            added_sound s.version (term_of x s) (s.version + 1) s.kinds (term_there x s h) (omega arith) h.successors;
         bindings = bound_more (length s.kinds) (length (added k s.kinds)) s.bindings (omega (arith, size)) h.bindings;
       };
     }
@@ -202,11 +226,13 @@ any_last p (j ∷ ks) k e = either_true (p j) (list_any p (ks ++ k ∷ [])) (any
 added_has : (i x : ℕ) (ks : List Kind) → list_any (same_kind (next i x)) (added (next i x) ks) ≡ true
 added_has i x ks = by_test (list_any (same_kind (next i x)) ks) refl
   where
-    by_test : (b : Bool) → list_any (same_kind (next i x)) ks ≡ b → list_any (same_kind (next i x)) (cond b ks (ks ++ next i x ∷ [])) ≡ true
+    by_test : (b : Bool) → list_any (same_kind (next i x)) ks ≡ b
+        → list_any (same_kind (next i x)) (cond b ks (ks ++ next i x ∷ [])) ≡ true
     by_test true e = e
     by_test false e = any_last (same_kind (next i x)) ks (next i x) (same_self i x)
 
-first_place : (p : Kind → Bool) (k : Kind) (ks : List Kind) → (list_any p ks ≡ true → position_or_len p ks < length ks) → (b : Bool) → p k ≡ b → b || list_any p ks ≡ true → position_or_len p (k ∷ ks) < suc (length ks)
+first_place : (p : Kind → Bool) (k : Kind) (ks : List Kind) → (list_any p ks ≡ true → position_or_len p ks < length ks)
+    → (b : Bool) → p k ≡ b → b || list_any p ks ≡ true → position_or_len p (k ∷ ks) < suc (length ks)
 first_place p k ks h true is f = rw is (omega arith)
 first_place p k ks h false is f = let l = h f in rw is (omega (arith, l))
 
@@ -244,39 +270,49 @@ expr_there (Read o) s t f h =
     let has = used_has o.name s in
     let before : term_of o.name u ≡ has.0 = ap (λ (b : Option ℕ). unwrap_or b 0) has.1 in
     let later : term_of o.name t ≡ has.0 = ap (λ (b : Option ℕ). unwrap_or b 0) (f.bindings o.name has.0 has.1) in
-    let listed = any_append (same_kind (next u.version (term_of o.name u))) (followed o.name u).kinds f.more (added_has u.version (term_of o.name u) u.kinds) in
-    let moved = subst (λ (ks : List Kind). list_any (same_kind (next u.version (term_of o.name u))) ks ≡ true) (sym f.kinds) listed in
-    let at_term = subst (λ (v : ℕ). list_any (same_kind (next u.version v)) t.kinds ≡ true) (before ∙ sym later) moved in
-    let at_version = subst (λ (i : ℕ). list_any (same_kind (next i (term_of o.name t))) t.kinds ≡ true) (sym f.version) at_term in
+    let listed =
+    any_append (same_kind (next u.version (term_of o.name u))) (followed o.name u).kinds f.more
+    (added_has u.version (term_of o.name u) u.kinds) in
+    let moved =
+    subst (λ (ks : List Kind). list_any (same_kind (next u.version (term_of o.name u))) ks ≡ true) (sym f.kinds)
+    listed in
+    let at_term =
+    subst (λ (v : ℕ). list_any (same_kind (next u.version v)) t.kinds ≡ true) (before ∙ sym later) moved in
+    let at_version =
+    subst (λ (i : ℕ). list_any (same_kind (next i (term_of o.name t))) t.kinds ≡ true) (sym f.version) at_term in
     place_there (next t.version (term_of o.name t)) t.kinds at_version
 
-pub exprs_there : (es : List Expr) (s t : Terms) → Extends (exprs_used es s) t → Sound t → AreBelow (length t.kinds) (exprs_terms es t)
+pub exprs_there : (es : List Expr) (s t : Terms) → Extends (exprs_used es s) t → Sound t
+    → AreBelow (length t.kinds) (exprs_terms es t)
 exprs_there [] s t f h = tt
 exprs_there (e ∷ es) s t f h =
     (expr_there e s t (extends_onto (exprs_extend es (expr_used e s)) f) h, exprs_there es (expr_used e s) t f h)
 
 mutual
-  test_extends : (t : Test) (s : Terms) → Extends s (test_walked t s)
+  test_extends : (t : Cond) (s : Terms) → Extends s (cond_walked t s)
   test_extends (compare l e r) s = extends_onto (expr_extends l s) (expr_extends r (expr_used l s))
   test_extends (negation t) s = test_extends t s
   test_extends (conjunction ts) s = tests_extend ts s
   test_extends (disjunction ts) s = tests_extend ts s
 
-  tests_extend : (ts : Tests) (s : Terms) → Extends s (tests_walked ts s)
-  tests_extend no_tests s = extends_same s
-  tests_extend (test_first t ts) s = extends_onto (test_extends t s) (tests_extend ts (test_walked t s))
+  tests_extend : (ts : Conds) (s : Terms) → Extends s (conds_walked ts s)
+  tests_extend no_conds s = extends_same s
+  tests_extend (cond_first t ts) s = extends_onto (test_extends t s) (tests_extend ts (cond_walked t s))
 
 mutual
-  pub walked_extends : (f : Formula) (s : Terms) → Extends s (walked f s)
+  pub walked_extends : (f : Assertion) (s : Terms) → Extends s (walked f s)
   walked_extends empty s = extends_same s
   walked_extends (comparison l e r) s = extends_onto (operand_extends l s) (operand_extends r (operand_used l s))
   walked_extends (points_to x y) s =
-      extends_onto (used_extends x.name s) (extends_onto (followed_extends x.name (used x.name s)) (operand_extends y (followed x.name (used x.name s))))
+      extends_onto (used_extends x.name s)
+      (extends_onto (followed_extends x.name (used x.name s)) (operand_extends y (followed x.name (used x.name s))))
   walked_extends (cell x) s = extends_onto (used_extends x.name s) (followed_extends x.name (used x.name s))
   walked_extends (segment x y) s = extends_onto (operand_extends x s) (operand_extends y (operand_used x s))
   walked_extends (star fs) s = all_extend fs s
-  walked_extends (cases t f g) s = extends_onto (test_extends t s) (extends_onto (walked_extends f (test_walked t s)) (walked_extends g (walked f (test_walked t s))))
+  walked_extends (cases t f g) s =
+      extends_onto (test_extends t s)
+      (extends_onto (walked_extends f (cond_walked t s)) (walked_extends g (walked f (cond_walked t s))))
 
-  all_extend : (fs : Formulas) (s : Terms) → Extends s (all_walked fs s)
-  all_extend no_formulas s = extends_same s
-  all_extend (formula_first f fs) s = extends_onto (walked_extends f s) (all_extend fs (walked f s))
+  all_extend : (fs : Assertions) (s : Terms) → Extends s (all_walked fs s)
+  all_extend no_assertions s = extends_same s
+  all_extend (assertion_first f fs) s = extends_onto (walked_extends f s) (all_extend fs (walked f s))

@@ -7,4 +7,7 @@ use Rattle.gh_symb.proofs.StatesInside.{use_extends}
 
 -- no use begins a version
 pub two_parts : StepsHaveTwoParts
-two_parts P proc x s = (sym (done_walked P proc x s), sym (encoding_is P proc x s (step_used proc x s) refl (use_extends proc x s).version))
+two_parts P proc x s = (
+  sym (done_walked P proc x s),
+  sym (encoding_is P proc x s (step_used proc x s) refl (use_extends proc x s).version),
+)

@@ -4,7 +4,7 @@ use Rattle.std.specs.Option.{option_map}
 use Rattle.gh_base.specs.declared.atom.Term.{Term}
 use Rattle.gh_base.specs.declared.term.TermKind.{TermKind}
 use Rattle.gh_base.specs.declared.term.TermKind.TheVariants.{Null, Value, Next}
-use Rattle.gh_ast.specs.Plain.{formula_of}
+use Rattle.gh_ast.specs.Plain.{assertion_of}
 use Rattle.gh_ast.specs.Programs.{Name}
 use Rattle.gh_path.specs.Terms.{Kind, null, value, next, Bindings}
 use Rattle.gh_grass.specs.declared.binding.Bond.{Bond}
@@ -33,18 +33,19 @@ abbrev pub IsBinding : List Bond → Bindings → Type 0
 IsBinding bonds b = (x : Name) → option_map (λ (t : Term). t.0) (term_in bonds x) ≡ b x
 
 pub record IsUnder (b : BoundAssertion) (u : plain.Under) : Type 0 where
-  pub assertion : formula_of b.assertion.now ≡ u.assertion
+  pub assertion : assertion_of b.assertion.now ≡ u.assertion
   pub binding : IsBinding b.binding u.binding
   pub version : b.version ≡ u.version
 
 abbrev pub IsTermStep : TermStep → plain.TermStep → Type 0
-IsTermStep (step.Access x) s = s ≡ plain.accessed x.0
-IsTermStep (step.Assume l e r) s = s ≡ plain.assumed l.0 e r.0
-IsTermStep step.Same s = s ≡ plain.same
-IsTermStep (step.Write x e) s = s ≡ plain.written x.0 e.0
-IsTermStep (step.New l k) s = s ≡ plain.made l.0 k.0
-IsTermStep (step.Free x) s = s ≡ plain.freed x.0
-IsTermStep (step.Part b a) s = (u : plain.Under) × (us : List plain.Under) × IsUnder b u × Each IsUnder a.items us × (s ≡ plain.parts u us)
+IsTermStep (step.Access x) s = s ≡ plain.access_step x.0
+IsTermStep (step.Assume l e r) s = s ≡ plain.assume_step l.0 e r.0
+IsTermStep step.Same s = s ≡ plain.same_step
+IsTermStep (step.Write x e) s = s ≡ plain.write_step x.0 e.0
+IsTermStep (step.New l k) s = s ≡ plain.new_step l.0 k.0
+IsTermStep (step.Free x) s = s ≡ plain.free_step x.0
+IsTermStep (step.Part b a) s =
+    (u : plain.Under) × (us : List plain.Under) × IsUnder b u × Each IsUnder a.items us × (s ≡ plain.part_step u us)
 
 abbrev pub IsTermCheck : TermCheck → plain.TermCheck → Type 0
 IsTermCheck (check.Access x) k = k ≡ plain.access x.0

@@ -3,12 +3,13 @@ use Rattle.std.specs.Prelude.{◌≡◌, ℕ, List, [], ◌∷◌, map, length, 
 use Rattle.std.specs.List.{flat_map}
 use Rattle.gh_ast.specs.declared.Expr.TheVariants.{Plain}
 use Rattle.gh_ast.specs.Programs.{variable_names}
-use Rattle.gh_ast.specs.Plain.{Formula, empty, cell, points_to, segment, comparison, star, no_formulas, formula_first}
-use Rattle.gh_ast.specs.Plain.{set, new, free, call, no_statements, statement_first, Procedure, Program}
+use Rattle.gh_ast.specs.Plain.{Assertion, empty, cell, points_to, segment, comparison, star, no_assertions}
+use Rattle.gh_ast.specs.Plain.{assertion_first, set, new, free, call, no_statements, statement_first, Procedure}
+use Rattle.gh_ast.specs.Plain.{Program}
 use Rattle.gh_path.specs.Conditions.{Condition, conditions}
 use Rattle.gh_path.specs.Examples.{at, named, var, null, reversal, concatenation}
 use Rattle.gh_path.specs.Terms.{terms_of, versions_of}
-use Rattle.gh_symb.specs.Symbolic.{accessed, freed, made, symbolic_of}
+use Rattle.gh_symb.specs.Symbolic.{access_step, free_step, new_step, symbolic_of}
 
 -- nothing is done
 abbrev pub nop : Procedure
@@ -34,10 +35,13 @@ reuse =
       parameters = named (120 ∷ []) (at 2 17) ∷ [];
       results = named (121 ∷ []) (at 2 35) ∷ [];
       needs = cell (named (120 ∷ []) (at 3 16));
-      gives = star (formula_first (cell (named (121 ∷ []) (at 4 15))) (formula_first (comparison (var 120 4 22) false (var 121 4 27)) no_formulas)) ∷ [];
+      gives = star (assertion_first (cell (named (121 ∷ []) (at 4 15)))
+          (assertion_first (comparison (var 120 4 22) false (var 121 4 27)) no_assertions)) ∷ [];
       body = Some (record {
         locals = [];
-        statements = statement_first (free (named (120 ∷ []) (at 6 8))) (statement_first (new (named (121 ∷ []) (at 7 3))) no_statements);
+        statements =
+            statement_first (free (named (120 ∷ []) (at 6 8)))
+            (statement_first (new (named (121 ∷ []) (at 7 3))) no_statements);
         close = at 8 1;
       });
       close = at 8 1;
@@ -47,21 +51,28 @@ abbrev pub freed_again : Program
 freed_again = record { fields = []; close = at 1 32; procedures = reuse ∷ [] }
 
 -- y := x; where the first of two alternatives is `y == null &*& x == null`
-abbrev pub pick : Formula → Procedure
+abbrev pub pick : Assertion → Procedure
 pick other =
     record {
       name = named (codes "pick") (at 1 11);
       parameters = named (120 ∷ []) (at 1 16) ∷ [];
       results = named (121 ∷ []) (at 1 34) ∷ [];
       needs = segment (var 120 2 17) (null 2 20);
-      gives = star (formula_first (comparison (var 121 3 11) true (null 3 16)) (formula_first (comparison (var 120 3 25) true (null 3 30)) no_formulas)) ∷ other ∷ [];
-      body = Some (record { locals = []; statements = statement_first (set (named (121 ∷ []) (at 5 3)) (Plain (var 120 5 8))) no_statements; close = at 6 1 });
+      gives = star (assertion_first (comparison (var 121 3 11) true (null 3 16))
+          (assertion_first (comparison (var 120 3 25) true (null 3 30)) no_assertions)) ∷ other ∷ [];
+      body = Some (record {
+        locals = [];
+        statements =
+            statement_first (set (named (121 ∷ []) (at 5 3)) (Plain (var 120 5 8))) no_statements;
+        close = at 6 1;
+      });
       close = at 6 1;
     }
 
 -- `y != null &*& lseg(y, null)`
-abbrev pub some_list : Formula
-some_list = star (formula_first (comparison (var 121 3 38) false (null 3 43)) (formula_first (segment (var 121 3 57) (null 3 60)) no_formulas))
+abbrev pub some_list : Assertion
+some_list = star (assertion_first (comparison (var 121 3 38) false (null 3 43))
+    (assertion_first (segment (var 121 3 57) (null 3 60)) no_assertions))
 
 -- y := pick(x);
 abbrev pub use_pick : Procedure
@@ -74,7 +85,9 @@ use_pick =
       gives = segment (var 121 9 16) (null 9 19) ∷ [];
       body = Some (record {
         locals = [];
-        statements = statement_first (call (named (121 ∷ []) (at 11 3) ∷ []) (named (codes "pick") (at 11 8)) (Plain (var 120 11 13) ∷ [])) no_statements;
+        statements =
+            statement_first (call (named (121 ∷ []) (at 11 3) ∷ []) (named (codes "pick") (at 11 8))
+            (Plain (var 120 11 13) ∷ [])) no_statements;
         close = at 12 1;
       });
       close = at 12 1;
@@ -85,7 +98,11 @@ picked = record { fields = []; close = at 1 32; procedures = pick some_list ∷ 
 
 -- `pick` alone, whose second alternative is `x.next |-> null`
 abbrev pub picked_first : Program
-picked_first = record { fields = []; close = at 1 32; procedures = pick (points_to (named (120 ∷ []) (at 3 38)) (null 3 49)) ∷ [] }
+picked_first = record {
+  fields = [];
+  close = at 1 32;
+  procedures = pick (points_to (named (120 ∷ []) (at 3 38)) (null 3 49)) ∷ [];
+}
 
 pub record Size : Type 0 where
   pub versions : ℕ
@@ -129,7 +146,9 @@ late =
       gives = empty ∷ [];
       body = Some (record {
         locals = named (99 ∷ []) (at 4 7) ∷ [];
-        statements = statement_first (set (named (121 ∷ []) (at 5 3)) (Plain (var 120 5 8))) (statement_first (set (named (121 ∷ []) (at 6 3)) (Plain (var 99 6 8))) no_statements);
+        statements =
+            statement_first (set (named (121 ∷ []) (at 5 3)) (Plain (var 120 5 8)))
+            (statement_first (set (named (121 ∷ []) (at 6 3)) (Plain (var 99 6 8))) no_statements);
         close = at 7 1;
       });
       close = at 7 1;
@@ -147,9 +166,11 @@ all_states P = all_told (states_of P) P
 
 -- a local that is never assigned has its term from the start; a result has none before it is first assigned
 pub record StatesHold : Type 0 where
-  pub used_later : all_states used_late ≡ ((Some 1 ∷ None ∷ Some 2 ∷ []) ∷ (Some 1 ∷ Some 1 ∷ Some 2 ∷ []) ∷ (Some 1 ∷ Some 2 ∷ Some 2 ∷ []) ∷ []) ∷ []
+  pub used_later : all_states used_late
+      ≡ ((Some 1 ∷ None ∷ Some 2 ∷ []) ∷ (Some 1 ∷ Some 1 ∷ Some 2 ∷ []) ∷ (Some 1 ∷ Some 2 ∷ Some 2 ∷ []) ∷ []) ∷ []
   pub made_later : all_states freed_again ≡
       ((Some 1 ∷ None ∷ []) ∷ [])
       ∷ ((Some 1 ∷ None ∷ []) ∷ (Some 1 ∷ None ∷ []) ∷ (Some 1 ∷ None ∷ []) ∷ (Some 1 ∷ Some 3 ∷ []) ∷ [])
       ∷ []
-  pub over_terms : all_told (λ p c. (symbolic_of freed_again p c).steps) freed_again ≡ [] ∷ (accessed 1 ∷ freed 1 ∷ made 3 4 ∷ []) ∷ []
+  pub over_terms : all_told (λ p c. (symbolic_of freed_again p c).steps) freed_again
+      ≡ [] ∷ (access_step 1 ∷ free_step 1 ∷ new_step 3 4 ∷ []) ∷ []

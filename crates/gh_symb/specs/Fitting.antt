@@ -35,7 +35,9 @@ EncodesCheck e k = IsCheckInside 256 256 k → IsTermCheck e k
 
 -- the step has one part in the place of another, whatever parts `before` and `after` encode
 abbrev pub JoinsParts : BoundAssertion → BoundAssertion → TermStep → Type 0
-JoinsParts before after encoded = (u w : plain.Under) → EncodesUnder before u → EncodesUnder after w → EncodesStep encoded (plain.parts u (w ∷ []))
+JoinsParts before after encoded =
+    (u w : plain.Under) → EncodesUnder before u → EncodesUnder after w
+    → EncodesStep encoded (plain.part_step u (w ∷ []))
 
 -- the check asks that the whole heap meets the assertion that b encodes
 abbrev pub AsksWhole : BoundAssertion → TermCheck → Type 0

@@ -24,20 +24,24 @@ known None before later = later
 
 -- the first uses of a condition after its start
 abbrev pub first_uses : Program → Procedure → Condition → Bindings
-first_uses P proc c y = let first = begins proc c.start in known (first.bindings y) None (first_use P proc c.way.steps c.way.check first y)
+first_uses P proc c y = let first = begins proc c.start in
+    known (first.bindings y) None (first_use P proc c.way.steps c.way.check first y)
 
 -- steps are left; what was met and encoded before them, and what was learned of first uses
-pub record IsFollowed (P : Program) (proc : Procedure) (steps : List PathStep) (c : Condition) (s : Terms) (firsts : Bindings) (states : List Bindings) (encoded : List TermStep) : Type 0 where
+pub record IsFollowed (P : Program) (proc : Procedure) (steps : List PathStep) (c : Condition) (s : Terms)
+    (firsts : Bindings) (states : List Bindings) (encoded : List TermStep) : Type 0 where
   pub lead : Remains P proc steps c s
   pub plain_steps : List plain.TermStep
   pub are_encodings : Each EncodesStep encoded plain_steps
   pub all_steps : plain_steps ++ term_steps P proc steps s ≡ term_steps P proc c.way.steps (begins proc c.start)
   pub meet : states ++ met P proc steps s ≡ met P proc c.way.steps (begins proc c.start)
   pub lack : (y : Name) → s.bindings y ≡ None → firsts y ≡ None
-  pub first : (y : Name) → known (s.bindings y) (firsts y) (first_use P proc steps c.way.check s y) ≡ first_uses P proc c y
+  pub first : (y : Name) → known (s.bindings y) (firsts y) (first_use P proc steps c.way.check s y)
+      ≡ first_uses P proc c y
 
 -- no steps are left
-pub record Followed (P : Program) (proc : Procedure) (c : Condition) (s : Terms) (firsts : Bindings) (states : List Bindings) (encoded : List TermStep) : Type 0 where
+pub record Followed (P : Program) (proc : Procedure) (c : Condition) (s : Terms) (firsts : Bindings)
+    (states : List Bindings) (encoded : List TermStep) : Type 0 where
   pub last : s ≡ steps_walked P proc c.way.steps (begins proc c.start)
   pub are_encodings : Each EncodesStep encoded (term_steps P proc c.way.steps (begins proc c.start))
   pub meet : states ≡ met P proc c.way.steps (begins proc c.start)

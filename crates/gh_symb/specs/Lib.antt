@@ -1,5 +1,5 @@
 pub mod Tables
-pub mod Rounds
+pub mod Loops
 pub mod Steps
 pub mod Remaining
 pub mod Limits

@@ -24,7 +24,8 @@ pub record IsLimitOf (p : Procedure) (kind count : ℕ) (l : limit.Limit) : Type
 -- the limit that a condition passes, terms before versions; counting stops one past the limit
 abbrev pub PassesLimit : Program → Procedure → Condition → limit.Limit → Type 0
 PassesLimit P proc c l =
-    (HasTerms P proc c × IsLimitOf proc 6 (most_terms + 1) l) ⊎ ((HasTerms P proc c → ⊥) × HasVersions P proc c × IsLimitOf proc 7 (most_versions + 1) l)
+    (HasTerms P proc c × IsLimitOf proc 6 (most_terms + 1) l)
+    ⊎ ((HasTerms P proc c → ⊥) × HasVersions P proc c × IsLimitOf proc 7 (most_versions + 1) l)
 
 pub record PassesNone (P : Program) (proc : Procedure) (c : Condition) : Type 0 where
   pub terms : HasTerms P proc c → ⊥
@@ -36,7 +37,9 @@ Passes P proc c (Some l) = PassesLimit P proc c l
 
 -- the limit of the first procedure with a condition that passes one: terms over the whole program before versions
 abbrev pub IsAdmitRefusal : Program → SymbolicError → Type 0
-IsAdmitRefusal P (Limit l) = Passed P (HasManyTerms P) 6 (most_terms + 1) l ⊎ (NoneHas P (HasManyTerms P) × Passed P (HasManyVersions P) 7 (most_versions + 1) l)
+IsAdmitRefusal P (Limit l) =
+    Passed P (HasManyTerms P) 6 (most_terms + 1) l
+    ⊎ (NoneHas P (HasManyTerms P) × Passed P (HasManyVersions P) 7 (most_versions + 1) l)
 IsAdmitRefusal P OutOfMemory = ⊤
 
 -- the refusal of one condition

@@ -8,7 +8,9 @@ use Rattle.gh_symb.specs.Limits.{HasVersions, IsLimitOf}
 
 -- none of them has the property
 abbrev pub NoneMet : Program → (Procedure → Condition → Type 0) → ℕ → Type 0
-NoneMet P Q k = (j : ℕ) (d : Condition) (proc : Procedure) → j < k → slice_get (conditions P) j ≡ Some d → IsOf P d proc → Q proc d → ⊥
+NoneMet P Q k =
+    (j : ℕ) (d : Condition) (proc : Procedure) → j < k → slice_get (conditions P) j ≡ Some d → IsOf P d proc → Q proc d
+    → ⊥
 
 -- the limit is that of the first of them that has it
 pub record IsFirstMet (P : Program) (Q : Procedure → Condition → Type 0) (k kind count : ℕ) (l : Limit) : Type 0 where

@@ -9,7 +9,10 @@ use Rattle.gh_symb.specs.declared.count.Count.{Count}
 
 -- how many terms and versions of the heap a condition of the procedure proc has
 abbrev pub count_of : Program → Procedure → Condition → Count
-count_of P proc c = record { terms = length (terms_of P proc c.start c.way); versions = versions_of P proc c.start c.way }
+count_of P proc c = record {
+  terms = length (terms_of P proc c.start c.way);
+  versions = versions_of P proc c.start c.way;
+}
 
 abbrev pub no_count : Count
 no_count = record { terms = 0; versions = 0 }

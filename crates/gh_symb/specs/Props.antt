@@ -5,7 +5,8 @@ use native.Mathlib.Bridge.{le_prop}
 use native.Mathlib.Nat.{ℕ_set}
 use Rattle.gh_path.specs.Terms.{Kind}
 use Rattle.gh_symb.specs.Symbolic as plain
-use Rattle.gh_symb.specs.Symbolic.{accessed, assumed, same, written, made, freed, parts, access, sub, whole}
+use Rattle.gh_symb.specs.Symbolic.{access_step, assume_step, same_step, write_step, new_step, free_step, part_step}
+use Rattle.gh_symb.specs.Symbolic.{access, sub, whole}
 use Rattle.gh_symb.specs.Formulas.{version_after}
 use Rattle.gh_symb.specs.Inside.{IsUnderInside, AllAreInside, IsStepInside, AreStepsInside, IsCheckInside, AreKinds}
 use Rattle.gh_symb.specs.Inside.{IsInside}
@@ -20,17 +21,19 @@ AllAreInside-prop : (n v : ℕ) (us : List plain.Under) → IsProp (AllAreInside
 AllAreInside-prop n v us = Π_prop (λ k. Π_prop (λ d. Π_prop (λ within. IsUnderInside-prop n v (slice_index_or us k d))))
 
 IsStepInside-prop : (n v i : ℕ) (s : plain.TermStep) → IsProp (IsStepInside n v i s)
-IsStepInside-prop n v i (accessed x) p q = λ j. (le_prop p.0 q.0 j, le_prop p.1 q.1 j)
-IsStepInside-prop n v i (assumed l e r) p q = λ j. (le_prop p.0 q.0 j, le_prop p.1 q.1 j)
-IsStepInside-prop n v i same p q = λ j. tt
-IsStepInside-prop n v i (written x e) p q = λ j. (le_prop p.0 q.0 j, le_prop p.1 q.1 j, le_prop p.2 q.2 j)
-IsStepInside-prop n v i (made l c) p q = λ j. (le_prop p.0 q.0 j, le_prop p.1 q.1 j, le_prop p.2 q.2 j)
-IsStepInside-prop n v i (freed x) p q = λ j. (le_prop p.0 q.0 j, le_prop p.1 q.1 j)
-IsStepInside-prop n v i (parts u us) p q = λ j. (IsUnderInside-prop n v u p.0 q.0 j, AllAreInside-prop n v us p.1 q.1 j, le_prop p.2 q.2 j)
+IsStepInside-prop n v i (access_step x) p q = λ j. (le_prop p.0 q.0 j, le_prop p.1 q.1 j)
+IsStepInside-prop n v i (assume_step l e r) p q = λ j. (le_prop p.0 q.0 j, le_prop p.1 q.1 j)
+IsStepInside-prop n v i same_step p q = λ j. tt
+IsStepInside-prop n v i (write_step x e) p q = λ j. (le_prop p.0 q.0 j, le_prop p.1 q.1 j, le_prop p.2 q.2 j)
+IsStepInside-prop n v i (new_step l c) p q = λ j. (le_prop p.0 q.0 j, le_prop p.1 q.1 j, le_prop p.2 q.2 j)
+IsStepInside-prop n v i (free_step x) p q = λ j. (le_prop p.0 q.0 j, le_prop p.1 q.1 j)
+IsStepInside-prop n v i (part_step u us) p q =
+    λ j. (IsUnderInside-prop n v u p.0 q.0 j, AllAreInside-prop n v us p.1 q.1 j, le_prop p.2 q.2 j)
 
 AreStepsInside-prop : (n v i : ℕ) (ss : List plain.TermStep) → IsProp (AreStepsInside n v i ss)
 AreStepsInside-prop n v i [] p q = λ j. tt
-AreStepsInside-prop n v i (s ∷ ss) p q = λ j. (IsStepInside-prop n v i s p.0 q.0 j, AreStepsInside-prop n v (version_after i s) ss p.1 q.1 j)
+AreStepsInside-prop n v i (s ∷ ss) p q =
+    λ j. (IsStepInside-prop n v i s p.0 q.0 j, AreStepsInside-prop n v (version_after i s) ss p.1 q.1 j)
 
 IsCheckInside-prop : (n v : ℕ) (k : plain.TermCheck) → IsProp (IsCheckInside n v k)
 IsCheckInside-prop n v (access x) = le_prop
@@ -44,7 +47,8 @@ AreKinds-prop n ks p q = λ i. record {
   successors = Π_prop (λ t. Π_prop (λ j. Π_prop (λ x. Π_prop (λ e. le_prop)))) p.successors q.successors i;
 }
 
-pub IsInside-prop : (ks : List Kind) (v : ℕ) (start : plain.Under) (steps : List plain.TermStep) (check : plain.TermCheck) → IsProp (IsInside ks v start steps check)
+pub IsInside-prop : (ks : List Kind) (v : ℕ) (start : plain.Under) (steps : List plain.TermStep)
+    (check : plain.TermCheck) → IsProp (IsInside ks v start steps check)
 IsInside-prop ks v start steps check p q = λ i. record {
   terms = AreKinds-prop (length ks) ks p.terms q.terms i;
   some_versions = le_prop p.some_versions q.some_versions i;

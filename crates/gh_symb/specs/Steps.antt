@@ -67,4 +67,5 @@ IsCount P proc c ManyTerms = most_terms < length (terms_of P proc c.start c.way)
 -- the count of each condition that has so many terms and versions
 abbrev pub IsCountOf : ℕ → ℕ → Counted → Type 0
 IsCountOf terms versions n =
-    (P : Program) (proc : Procedure) (c : Condition) → length (terms_of P proc c.start c.way) ≡ terms → versions_of P proc c.start c.way ≡ versions → IsCount P proc c n
+    (P : Program) (proc : Procedure) (c : Condition) → length (terms_of P proc c.start c.way) ≡ terms
+    → versions_of P proc c.start c.way ≡ versions → IsCount P proc c n

@@ -1,7 +1,7 @@
 //! The start and the check of a condition, over terms.
 
 ghost use Rattle.std.specs.Prelude.{◌≡◌, IfOk, OnOk};
-ghost use Rattle.gh_ast.specs.Plain.{formula_of, procedure_of};
+ghost use Rattle.gh_ast.specs.Plain.{assertion_of, procedure_of};
 ghost use Rattle.gh_base.specs.declared.place.Span.{Span};
 ghost use Rattle.gh_path.specs.Graphs.{meets_at, HasLoop, HasProcedure};
 ghost use Rattle.gh_path.specs.Conditions.{CheckIsThere, StartIsThere};
@@ -12,9 +12,9 @@ ghost use Rattle.gh_symb.specs.Walkers.{Begins, EndsCalled, EndsCheck, EndsEntry
 ghost use Rattle.gh_symb.specs.Walkers.{ReadsInvariant, UsesAll, UsesCheck, WalksInvariant};
 
 use crate::context::Context;
+use crate::loops::while_of;
 use crate::numbers::term_of;
 use crate::over_terms::{BoundAssertion, TermCheck};
-use crate::rounds::round_of;
 use crate::walker::Walker;
 use gh_ast::{Assertion, Expr, Procedure};
 use gh_path::condition::{CheckKind, Start};
@@ -23,11 +23,11 @@ use std::alloc::{AllocError, Global};
 /// The start assertion.
 fn start_assertion(procedure: &Procedure, start: Start) -> &Assertion
     requires { StartIsThere (procedure_of procedure.now) (start_of start) }
-    ensures { formula_of result.now ≡ meets_at (procedure_of procedure.now) (start_of start) }
+    ensures { assertion_of result.now ≡ meets_at (procedure_of procedure.now) (start_of start) }
 {
     match start {
         Start::Entry => &procedure.needs,
-        Start::Loop { number } => round_of(procedure, number as usize).invariant,
+        Start::Loop { number } => while_of(procedure, number as usize).invariant,
     }
 }
 
@@ -107,7 +107,7 @@ impl<'a> Walker<'a> {
         ensures read { IfOk result (ReadsInvariant context.entry number self.old) }
         ensures version { OnOk result (self.new.version ≡ self.old.version) }
     {
-        let round = round_of(context.procedure, number as usize);
+        let round = while_of(context.procedure, number as usize);
         let bound = self.walk_bound(alloc, round.invariant)?;
         Ok(bound)
     }

@@ -4,8 +4,8 @@ ghost use Rattle.std.specs.Prelude.{IfOk, OnOk};
 ghost use Rattle.gh_symb.specs.Tables.{bound_by, Walks};
 ghost use Rattle.gh_symb.specs.Fitting.{EncodesBeside, EncodesBinding};
 ghost use Rattle.gh_symb.specs.Inside.{binding_of};
-ghost use Rattle.gh_symb.specs.Reads.{walked_of, LearnsTerms, ReadsBound, ReadsEach, ReadsStates, ReadsWalked, WalksEach};
-ghost use Rattle.gh_symb.specs.Reads.{gives_walked, ReadsGives};
+ghost use Rattle.gh_symb.specs.Reads.{walked_of, LearnsTerms, ReadsBound, ReadsEach, ReadsStates, ReadsWalked};
+ghost use Rattle.gh_symb.specs.Reads.{WalksEach, gives_walked, ReadsGives};
 
 use crate::kinds::Kinds;
 use crate::numbers::{short, term_of};

@@ -15,15 +15,16 @@ ghost use Rattle.gh_symb.specs.Walkers.{DoesAnywhere, DoesCall, DoesLoop, DoesSt
 ghost use Rattle.gh_symb.specs.Walkers.{ReadsAnywhere, ReadsCall, ReadsLoop, ReadsStep, WalksStep};
 
 use crate::context::Context;
+use crate::loops::while_of;
 use crate::numbers::term_of;
 use crate::over_terms::{BoundAssertion, TermStep};
-use crate::rounds::{Round, round_of};
 use crate::scope::Scope;
 use crate::walker::Walker;
 use gh_ast::{Expr, Occ, Procedure};
 use gh_base::atom::Term;
 use gh_base::name::Name;
 use gh_path::condition::PathStep;
+use gh_path::loops::While;
 use std::alloc::{AllocError, Global};
 
 /// One part of the heap in the place of another.
@@ -104,7 +105,7 @@ impl<'a> Walker<'a> {
         &mut self,
         alloc: Global,
         context: Context<'a>,
-        round: &Round<'a>,
+        round: &While<'a>,
     ) -> Result<TermStep<'a>, AllocError>
         requires { self.old.version < 9223372036854775807 }
         ensures done { OnOk result (DoesLoop context.entry round.now self.old self.new) }
@@ -195,7 +196,7 @@ impl<'a> Walker<'a> {
         ensures read { IfOk result (λ step. ReadsStep context.entry (OnLoop number) self.old step) }
         ensures next { OnOk result (self.new.version ≤ self.old.version + 1) }
     {
-        let round = round_of(context.procedure, number as usize);
+        let round = while_of(context.procedure, number as usize);
         let step = self.encode_loop(alloc, context, &round)?;
         Ok(step)
     }

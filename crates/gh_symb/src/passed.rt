@@ -20,21 +20,21 @@ use std::alloc::{AllocError, Global};
 /// The start assertion, the variables with the terms of their first uses, those with terms at each state, and the
 /// steps over terms.
 #[derive(Drop)]
-pub struct Passed<'a> {
+pub struct PathSoFar<'a> {
     pub start: BoundAssertion<'a>,
     pub firsts: Scope<'a>,
     pub states: Vec<Scope<'a>>,
     pub steps: Vec<TermStep<'a>>,
 }
 
-impl<'a> Passed<'a> {
+impl<'a> PathSoFar<'a> {
     /// Walks over the start assertion of a condition.
     pub fn begin(
         alloc: Global,
         walker: &mut Walker<'a>,
         context: Context<'a>,
         condition: &'a Condition,
-    ) -> Result<Passed<'a>, AllocError>
+    ) -> Result<PathSoFar<'a>, AllocError>
         requires there { StartIsThere (procedure_in context) (start_of condition.now.start) }
         requires first { terms_at walker.old ≡ no_terms }
         ensures passed { IfOk result (λ k.
@@ -42,7 +42,7 @@ impl<'a> Passed<'a> {
         ensures version { OnOk result (walker.new.version ≡ walker.old.version) }
     {
         let start = walker.ask_start(alloc, context, condition.start)?;
-        Ok(Passed {
+        Ok(PathSoFar {
             start,
             firsts: Scope::new(alloc),
             states: Vec::new(alloc),

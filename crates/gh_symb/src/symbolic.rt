@@ -16,7 +16,7 @@ use crate::count::Counted;
 use crate::kinds::Kinds;
 use crate::limits::{SymbolicError, limit_of, terms_limit};
 use crate::over_terms::{BoundAssertion, Symbolic, TermCheck, TermStep};
-use crate::passed::Passed;
+use crate::passed::PathSoFar;
 use crate::walker::Walker;
 use gh_ast::typed::Typed;
 use gh_grass::binding::Binding;
@@ -42,7 +42,7 @@ fn end<'a>(
     context: Context<'a>,
     condition: &'a Condition,
     walker: Walker<'a>,
-    passed: Passed<'a>,
+    passed: PathSoFar<'a>,
 ) -> Result<Walked<'a>, AllocError>
     requires of { IsContextOf (program_in context) condition.now context }
     requires room { walker.version ≤ 9223372036854775807 }
@@ -76,7 +76,7 @@ fn walk<'a>(
 {
     let context = context_of(typed, condition);
     let mut walker = Walker::new(alloc)?;
-    let mut passed = Passed::begin(alloc, &mut walker, context, condition)?;
+    let mut passed = PathSoFar::begin(alloc, &mut walker, context, condition)?;
     if !passed.pass_all(alloc, &mut walker, context, condition)? {
         return Ok(None);
     }

@@ -1,10 +1,10 @@
 //! Walks over expressions, tests and assertions.
 
 ghost use Rattle.std.specs.Prelude.{◌≡◌, ℕ, List, IfOk, OnOk, map, unwrap_or};
-ghost use Rattle.gh_ast.specs.Plain.{test_of};
+ghost use Rattle.gh_ast.specs.Plain.{cond_of};
 ghost use Rattle.gh_ast.specs.Programs.{names};
 ghost use Rattle.gh_path.specs.Terms.{Kind, all_bound, operand_used, operand_term, expr_used, expr_term};
-ghost use Rattle.gh_path.specs.Terms.{exprs_used, exprs_terms, test_walked};
+ghost use Rattle.gh_path.specs.Terms.{exprs_used, exprs_terms, cond_walked};
 ghost use Rattle.gh_symb.specs.Reads.{all_tests_of, all_walked_of, walked_of};
 ghost use Rattle.gh_symb.specs.Tables.{bound_by, state, IsOperandTerm, Visits, Walks, WalksAlways};
 
@@ -173,7 +173,7 @@ impl<'a> Scope<'a> {
         test: &'a Cond,
         version: usize,
     ) -> Result<(), AllocError>
-        ensures { OnOk result (Walks (test_walked (test_of test.now)) kinds.old self.old kinds.new self.new version) }
+        ensures { OnOk result (Walks (cond_walked (cond_of test.now)) kinds.old self.old kinds.new self.new version) }
     {
         match test {
             Cond::Compare { left, right, .. } => {

@@ -7,12 +7,13 @@ ghost use Rattle.gh_path.specs.Graphs.{HasLoop};
 ghost use Rattle.gh_path.specs.Conditions.{StepIsThere};
 ghost use Rattle.gh_path.specs.Kept.{step_of};
 ghost use Rattle.gh_symb.specs.Contexts.{procedure_in, program_in};
-ghost use Rattle.gh_symb.specs.Walkers.{terms_at, Goes, IsInsideCall, ReadsAssertion, ReadsWays, UsesStep, WalksInvariant};
+ghost use Rattle.gh_symb.specs.Walkers.{terms_at, Goes, IsInsideCall, ReadsAssertion, ReadsWays, UsesStep};
+ghost use Rattle.gh_symb.specs.Walkers.{WalksInvariant};
 
 use crate::context::Context;
 use crate::kinds::Kinds;
+use crate::loops::while_of;
 use crate::over_terms::BoundAssertion;
-use crate::rounds::round_of;
 use crate::scope::Scope;
 use gh_ast::{Assertion, Expr, Procedure};
 use gh_path::condition::PathStep;
@@ -99,7 +100,7 @@ impl<'a> Walker<'a> {
         ensures terms { OnOk result (WalksInvariant context.entry number self.old self.new) }
         ensures version { OnOk result (self.new.version ≡ self.old.version) }
     {
-        let round = round_of(context.procedure, number as usize);
+        let round = while_of(context.procedure, number as usize);
         self.scope
             .walk(&mut self.kinds, round.invariant, self.version)
     }

@@ -23,9 +23,11 @@ use Rattle.gh_trace.specs.Validity.{AreCounterexample}
 use Rattle.gh_trace.specs.declared.state.State.{State}
 use Rattle.gh_trace.specs.declared.state.Trace.{Trace}
 
-pub first_reported : (P : Program) (k : ℕ) (t : Trace) → IsTyped P → (f : ShowsFirst P k t) → All HasValues t.states.items → IsFirstRefuted P k f.condition (map state_of t.states.items)
+pub first_reported : (P : Program) (k : ℕ) (t : Trace) → IsTyped P → (f : ShowsFirst P k t)
+    → All HasValues t.states.items → IsFirstRefuted P k f.condition (map state_of t.states.items)
 first_reported P k t typed f values =
-    let told = told_of_refuted P k f.condition t.states.items typed (first_low P k t f, first_at P k t f) f.refutes values in
+    let told =
+    told_of_refuted P k f.condition t.states.items typed (first_low P k t f, first_at P k t f) f.refutes values in
     record {
       procedure = told.procedure;
       of = told.of;
@@ -35,27 +37,34 @@ first_reported P k t typed f values =
     }
 
 -- its drawing is one over the variables of its procedure
-pub first_drawn : (P : Program) (k : ℕ) (t : Trace) (typed : IsTyped P) (f : ShowsFirst P k t) (values : All HasValues t.states.items)
-    → drawing_text k t.states.items ≡ drawing k (variable_names (first_reported P k t typed f values).procedure) (map state_of t.states.items)
+pub first_drawn : (P : Program) (k : ℕ) (t : Trace) (typed : IsTyped P) (f : ShowsFirst P k t)
+    (values : All HasValues t.states.items)
+    → drawing_text k t.states.items
+    ≡ drawing k (variable_names (first_reported P k t typed f values).procedure) (map state_of t.states.items)
 first_drawn P k t typed f values =
-    let told = told_of_refuted P k f.condition t.states.items typed (first_low P k t f, first_at P k t f) f.refutes values in
+    let told =
+    told_of_refuted P k f.condition t.states.items typed (first_low P k t f, first_at P k t f) f.refutes values in
     let reported = first_reported P k t typed f values in
-    let same : told.procedure ≡ reported.procedure = one_value (slice_get P.procedures f.condition.procedure) told.procedure reported.procedure told.of reported.of in
+    let same : told.procedure ≡ reported.procedure =
+    one_value (slice_get P.procedures f.condition.procedure) told.procedure reported.procedure told.of
+    reported.of in
     told.text ∙ ap (λ (proc : Procedure). drawing k (variable_names proc) (map state_of t.states.items)) same
 
 plain_states : (ss : List State) → map state_of ss ≡ map (λ (x : replay.Drawn). x.state) (map drawn ss)
 plain_states [] = refl
 plain_states (s ∷ ss) = ap (λ xs. state_of s ∷ xs) (plain_states ss)
 
-drawn_over : (ns : List Name) (ss : List State) → All (HasVariables ns) ss → (x : replay.Drawn) → Contains (map drawn ss) x → x.listed ≡ ns
+drawn_over : (ns : List Name) (ss : List State) → All (HasVariables ns) ss → (x : replay.Drawn)
+    → Contains (map drawn ss) x → x.listed ≡ ns
 drawn_over ns [] over x there = absurd (no_member x there)
 drawn_over ns (s ∷ ss) over x there = elim (member_cases (drawn s) (map drawn ss) x there) as (λ _. x.listed ≡ ns) [
   | inl is ↦ subst (λ (y : replay.Drawn). y.listed ≡ ns) is (All-head (HasVariables ns) s ss over)
   | inr later ↦ drawn_over ns ss (All-tail (HasVariables ns) s ss over) x later
 ]
 
-drawn_refute : (P : Program) (c : Condition) (proc : Procedure) (ss : List State) → AreCounterexample P c (map state_of ss) → IsOf P c proc → All (HasVariables (variable_names proc)) ss
-    → replay.Refutes P c (map drawn ss)
+drawn_refute : (P : Program) (c : Condition) (proc : Procedure) (ss : List State)
+    → AreCounterexample P c (map state_of ss) → IsOf P c proc → All (HasVariables (variable_names proc)) ss
+    → replay.IsDrawnCounterexample P c (map drawn ss)
 drawn_refute P c proc [] against of over = absurd against
 drawn_refute P c proc (s ∷ ss) (q, its, against) of over = record {
   procedure = proc;
@@ -65,11 +74,15 @@ drawn_refute P c proc (s ∷ ss) (q, its, against) of over = record {
   states = refl;
   over = drawn_over (variable_names proc) (s ∷ ss) over;
   counterexample =
-      let here = subst (λ (x : Procedure). Counterexample P x (meets_at x c.start) c.way.steps c.way.check (state_of s) (map state_of ss)) (one_value (slice_get P.procedures c.procedure) q proc its of) against in
-      subst (λ (ys : List plain.State). Counterexample P proc (meets_at proc c.start) c.way.steps c.way.check (state_of s) ys) (plain_states ss) here;
+      let here = subst (λ (x : Procedure). Counterexample P x (meets_at x c.start) c.way.steps c.way.check (state_of s)
+      (map state_of ss)) (one_value (slice_get P.procedures c.procedure) q proc its of) against in
+      subst (λ (ys : List plain.State). Counterexample P proc (meets_at proc c.start) c.way.steps c.way.check
+      (state_of s) ys) (plain_states ss) here;
 }
 
-first_decided : (P : Program) (k : ℕ) (c : Condition) (t : Trace) → (f : IsFirstRefuted P k c (map state_of t.states.items)) → All (HasVariables (variable_names f.procedure)) t.states.items → ShowsFirst P k t
+first_decided : (P : Program) (k : ℕ) (c : Condition) (t : Trace)
+    → (f : IsFirstRefuted P k c (map state_of t.states.items))
+    → All (HasVariables (variable_names f.procedure)) t.states.items → ShowsFirst P k t
 first_decided P k c t f over = record {
   before = f.reached.before;
   condition = c;

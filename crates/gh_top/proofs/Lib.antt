@@ -21,3 +21,4 @@ pub mod SessionLemmas
 pub mod SessionLaws
 pub mod LogLaws
 pub mod NumberLemmas
+mod FailedRuns

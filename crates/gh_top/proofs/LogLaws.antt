@@ -5,7 +5,12 @@ use Rattle.gh_log.specs.Lines.{LogLine}
 use Rattle.gh_log.specs.Spelled.{IsSpelled}
 use Rattle.gh_log.specs.Texts.{log_text}
 use Rattle.gh_decide.specs.Logs.{IsValidLog}
-use Rattle.gh_top.specs.Headline.{Files, Asks, Answer, usage, refused, check_verified, check_refuted, log_verified, log_refuted, recheck_refused, recheck_verified, paths_listed, replay_refused, replay_refuted, smallest_verified, smallest_refuted, stress_verified, stress_refuted, smt_listed, smt_no_condition, smt_too_long, run_refused, run_unmet, run_stopped, run_faulted, run_held, run_failed, session_refused, session_listed, entail_refused, entail_verified, entail_refuted}
+use Rattle.gh_top.specs.Headline.{Files, Asks, Answer, usage, refused, check_verified, check_refuted, log_verified}
+use Rattle.gh_top.specs.Headline.{log_refuted, recheck_refused, recheck_verified, paths_listed, replay_refused}
+use Rattle.gh_top.specs.Headline.{replay_refuted, smallest_verified, smallest_refuted, stress_verified, stress_refuted}
+use Rattle.gh_top.specs.Headline.{smt_listed, smt_no_condition, smt_too_long, run_refused, run_unmet, run_stopped}
+use Rattle.gh_top.specs.Headline.{run_faulted, run_held, run_failed, session_refused, session_listed, entail_refused}
+use Rattle.gh_top.specs.Headline.{entail_verified, entail_refuted}
 use Rattle.gh_top.specs.Laws.{LogsAreRechecked}
 use Rattle.gh_top.specs.Words.{IsRequest}
 use Rattle.gh_top.specs.declared.words.Request.TheVariants.{Check, Log, Recheck, Smallest, Stress, Entail}
@@ -35,7 +40,8 @@ no_stress words f n a b = let same = one_request words (Log f) (Stress n) a b in
 no_entail : (words : List (List ℕ)) (f g : List ℕ) → IsRequest words (Log f) → IsRequest words (Entail g) → ⊥
 no_entail words f g a b = let same = one_request words (Log f) (Entail g) a b in absurd cc
 
-valid_text : (words : List (List ℕ)) (files : Files) (f : List ℕ) (s : Status) (u : List ℕ) (P : Program) → Asks words files (Log f) P → Answer words files s u → s ≡ Verified → IsValidText P u
+valid_text : (words : List (List ℕ)) (files : Files) (f : List ℕ) (s : Status) (u : List ℕ) (P : Program)
+    → Asks words files (Log f) P → Answer words files s u → s ≡ Verified → IsValidText P u
 valid_text words files f s u P b (usage h) e = absurd cc
 valid_text words files f s u P b (refused x a on h) e = absurd cc
 valid_text words files f s u P b (check_verified a v) e = absurd (no_check words f _ b.request a.request)
@@ -71,4 +77,10 @@ valid_text words files f s u P b (session_listed a w) e = absurd cc
 pub logs_are_rechecked : LogsAreRechecked
 logs_are_rechecked words others files f g l u P asks answer again bytes short =
     let v = valid_text words files f Verified u P asks answer refl in
-    recheck_verified again (record { text = u; bytes_are = bytes; log = v.log; spelled = record { short = short; version = 2; text_is = v.text_is; spelled = v.spelled }; valid = v.valid })
+    recheck_verified again (record {
+      text = u;
+      bytes_are = bytes;
+      log = v.log;
+      spelled = record { short = short; version = 2; text_is = v.text_is; spelled = v.spelled };
+      valid = v.valid;
+    })

@@ -1,5 +1,6 @@
 -- A log, a drawing, a state or a session file that is refused is refused with one text.
-use Rattle.std.proofs.Common.{◌≡◌, ◌≢◌, ◌⊎◌, inl, inr, ◌∙◌, ℕ, ◌+◌, ◌<◌, List, [], ◌∷◌, ◌++◌, length, map, append_assoc, length-append, refl, sym, ap, subst, arith}
+use Rattle.std.proofs.Common.{◌≡◌, ◌≢◌, ◌⊎◌, inl, inr, ◌∙◌, ℕ, ◌+◌, ◌<◌, List, [], ◌∷◌, ◌++◌, length, map, append_assoc}
+use Rattle.std.proofs.Common.{length-append, refl, sym, ap, subst, arith}
 use Rattle.std.specs.Prelude.{Option, codes, slice_get}
 use Rattle.std.specs.Fmt.{decimal}
 use Rattle.gh_ast.specs.Plain.{Program}
@@ -50,7 +51,8 @@ data AreNested (f g r s : List ℕ) : Type 0 where
 
 nested_on : {f g r s : List ℕ} (b c : ℕ) → b ≡ c → AreNested f g r s → AreNested (b ∷ f) (c ∷ g) r s
 nested_on {g = g} b c e (one_front h) = one_front (ap (λ z. b ∷ z) h ∙ ap (λ z. z ∷ g) e)
-nested_on {f = f} b c e (shorter_front d m h k) = shorter_front d m (ap (λ z. c ∷ z) h ∙ ap (λ z. z ∷ (f ++ d ∷ m)) (sym e)) k
+nested_on {f = f} b c e (shorter_front d m h k) =
+    shorter_front d m (ap (λ z. c ∷ z) h ∙ ap (λ z. z ∷ (f ++ d ∷ m)) (sym e)) k
 nested_on {g = g} b c e (longer_front d m h k) = longer_front d m (ap (λ z. b ∷ z) h ∙ ap (λ z. z ∷ (g ++ d ∷ m)) e) k
 
 nested : (f g r s : List ℕ) → f ++ r ≡ g ++ s → AreNested f g r s
@@ -66,12 +68,14 @@ no_front : (f : List ℕ) (b : ℕ) (m : List ℕ) → f ++ b ∷ m ≡ [] → �
 no_front [] b m e = absurd cc
 no_front (c ∷ f) b m e = absurd cc
 
-still_before : (f m : List ℕ) (b : ℕ) (r : List ℕ) → (f ≡ []) ⊎ (IsLogText f × (r ≢ [])) → (f ≡ []) ⊎ (IsLogText f × ((b ∷ m) ≢ []))
+still_before : (f m : List ℕ) (b : ℕ) (r : List ℕ) → (f ≡ []) ⊎ (IsLogText f × (r ≢ []))
+    → (f ≡ []) ⊎ (IsLogText f × ((b ∷ m) ≢ []))
 still_before f m b r (inl none) = inl none
 still_before f m b r (inr (log, some)) = inr (log, λ e. absurd cc)
 
 -- the first line outside isn't one of a log that the text begins with
-inside_front : (text : List ℕ) (j k : ℕ) (b : ℕ) (m : List ℕ) → (a : IsFirstOutside text j) → (o : IsFirstOutside text k) → o.front ≡ a.front ++ b ∷ m → a.rest ≡ (b ∷ m) ++ o.rest → ⊥
+inside_front : (text : List ℕ) (j k : ℕ) (b : ℕ) (m : List ℕ) → (a : IsFirstOutside text j)
+    → (o : IsFirstOutside text k) → o.front ≡ a.front ++ b ∷ m → a.rest ≡ (b ∷ m) ++ o.rest → ⊥
 inside_front text j k b m a o front rest = elim o.before as (λ _. ⊥) [
   | inl none ↦ no_front a.front b m (sym front ∙ none)
   | inr (log, some) ↦
@@ -81,7 +85,9 @@ inside_front text j k b m a o front rest = elim o.before as (λ _. ⊥) [
         whole = front;
         number_is = a.number_is;
         before = still_before a.front m b a.rest a.before;
-        outside = λ l after e plain. a.outside l (after ++ o.rest) (rest ∙ ap (λ z. z ++ o.rest) e ∙ append_assoc l (10 ∷ after) o.rest) plain;
+        outside =
+            λ l after e plain. a.outside l (after ++ o.rest)
+            (rest ∙ ap (λ z. z ++ o.rest) e ∙ append_assoc l (10 ∷ after) o.rest) plain;
       })
 ]
 
@@ -94,7 +100,8 @@ one_outside text j k a o = elim (nested a.front o.front a.rest o.rest (sym a.who
 
 -- the first fault of the sections
 
-as_long : (P : Program) (log : List (List LogLine)) (n at : ℕ) → (f : IsFirstFaultIn P log n at) → length f.before ≡ length f.earlier
+as_long : (P : Program) (log : List (List LogLine)) (n at : ℕ) → (f : IsFirstFaultIn P log n at)
+    → length f.before ≡ length f.earlier
 as_long P log n at f = as_many P f.earlier f.before f.valid
 
 longer_list : {X : Type 0} (b c d : List X) (x : X) → c ≡ b ++ x ∷ d → length b < length c
@@ -104,7 +111,8 @@ longer_list b c d x e =
     omega (arith, parts, count)
 
 -- the section of a first fault isn't among the valid ones before another
-fault_later : (P : Program) (log : List (List LogLine)) (n m at there : ℕ) (rest : List (List LogLine)) → (f : IsFirstFaultIn P log n at) → (g : IsFirstFaultIn P log m there) → g.before ≡ f.before ++ f.lines ∷ rest
+fault_later : (P : Program) (log : List (List LogLine)) (n m at there : ℕ) (rest : List (List LogLine))
+    → (f : IsFirstFaultIn P log n at) → (g : IsFirstFaultIn P log m there) → g.before ≡ f.before ++ f.lines ∷ rest
     → IsOrder f.earlier g.earlier f.condition g.condition → ⊥
 fault_later P log n m at there rest f g e (one_place same c) =
     let long = longer_list f.before g.before rest f.lines e in
@@ -113,8 +121,11 @@ fault_later P log n m at there rest f g e (one_place same c) =
     let other = as_long P log m there g in
     absurd (omega (arith, own, other, counts, long))
 fault_later P log n m at there rest f g e (left_first more whole) =
-    let valid : AreValidSections P (f.earlier ++ f.condition ∷ more) (f.before ++ f.lines ∷ rest) = subst (λ cs. AreValidSections P cs (f.before ++ f.lines ∷ rest)) whole (subst (AreValidSections P g.earlier) e g.valid) in
-    apart (problem (symbolic_of P f.procedure f.condition)) f.lines n f.place (section_at P f.earlier f.condition more f.before f.lines rest f.valid valid f.procedure f.of) f.fault
+    let valid : AreValidSections P (f.earlier ++ f.condition ∷ more) (f.before ++ f.lines ∷ rest) =
+    subst (λ cs. AreValidSections P cs (f.before ++ f.lines ∷ rest)) whole
+    (subst (AreValidSections P g.earlier) e g.valid) in
+    apart (problem (symbolic_of P f.procedure f.condition)) f.lines n f.place
+    (section_at P f.earlier f.condition more f.before f.lines rest f.valid valid f.procedure f.of) f.fault
 fault_later P log n m at there rest f g e (right_first more whole) =
     let long = longer_list f.before g.before rest f.lines e in
     let longer = longer_list g.earlier f.earlier more g.condition whole in
@@ -122,10 +133,13 @@ fault_later P log n m at there rest f g e (right_first more whole) =
     let other = as_long P log m there g in
     absurd (omega (arith, own, other, longer, long))
 
-orders : (P : Program) (log : List (List LogLine)) (n m at there : ℕ) → (f : IsFirstFaultIn P log n at) → (g : IsFirstFaultIn P log m there) → IsOrder f.earlier g.earlier f.condition g.condition
-orders P log n m at there f g = ordered f.earlier g.earlier f.later g.later f.condition g.condition (sym f.whole ∙ g.whole)
+orders : (P : Program) (log : List (List LogLine)) (n m at there : ℕ) → (f : IsFirstFaultIn P log n at)
+    → (g : IsFirstFaultIn P log m there) → IsOrder f.earlier g.earlier f.condition g.condition
+orders P log n m at there f g =
+    ordered f.earlier g.earlier f.later g.later f.condition g.condition (sym f.whole ∙ g.whole)
 
-same_condition : (P : Program) (log : List (List LogLine)) (n m at there : ℕ) → (f : IsFirstFaultIn P log n at) → (g : IsFirstFaultIn P log m there) → length f.before ≡ length g.before
+same_condition : (P : Program) (log : List (List LogLine)) (n m at there : ℕ) → (f : IsFirstFaultIn P log n at)
+    → (g : IsFirstFaultIn P log m there) → length f.before ≡ length g.before
     → IsOrder f.earlier g.earlier f.condition g.condition → f.condition ≡ g.condition
 same_condition P log n m at there f g e (one_place same c) = c
 same_condition P log n m at there f g e (left_first more whole) =
@@ -143,10 +157,13 @@ record IsSameFault (n m at there : ℕ) : Type 0 where
   number : n ≡ m
   place : at ≡ there
 
-same_fault : (P : Program) (log : List (List LogLine)) (n m at there : ℕ) → (f : IsFirstFaultIn P log n at) → (g : IsFirstFaultIn P log m there) → f.before ≡ g.before → f.lines ≡ g.lines → f.condition ≡ g.condition → IsSameFault n m at there
+same_fault : (P : Program) (log : List (List LogLine)) (n m at there : ℕ) → (f : IsFirstFaultIn P log n at)
+    → (g : IsFirstFaultIn P log m there) → f.before ≡ g.before → f.lines ≡ g.lines → f.condition ≡ g.condition
+    → IsSameFault n m at there
 same_fault P log n m at there f g before lines condition =
     let of : IsOf P g.condition f.procedure = subst (λ c. IsOf P c f.procedure) condition f.of in
-    let procedure : f.procedure ≡ g.procedure = one_value (slice_get P.procedures g.condition.procedure) f.procedure g.procedure of g.of in
+    let procedure : f.procedure ≡ g.procedure =
+    one_value (slice_get P.procedures g.condition.procedure) f.procedure g.procedure of g.of in
     let there : IsFirstFault (problem (symbolic_of P f.procedure g.condition)) g.lines n f.place =
     subst (λ c. IsFirstFault (problem (symbolic_of P f.procedure c)) g.lines n f.place) condition
     (subst (λ ls. IsFirstFault (problem (symbolic_of P f.procedure f.condition)) ls n f.place) lines f.fault) in
@@ -155,61 +172,86 @@ same_fault P log n m at there f g before lines condition =
     let both = one (problem (symbolic_of P g.procedure g.condition)) g.lines n f.place m g.place moved g.fault in
     record {
       number = both.0;
-      place = f.at_is ∙ ap (λ ss. 1 + lines_in ss + 1 + f.place + 1) before ∙ ap (λ k. 1 + lines_in g.before + 1 + k + 1) both.1 ∙ sym g.at_is;
+      place =
+          f.at_is ∙ ap (λ ss. 1 + lines_in ss + 1 + f.place + 1) before
+          ∙ ap (λ k. 1 + lines_in g.before + 1 + k + 1) both.1 ∙ sym g.at_is;
     }
 
-one_first_fault : (P : Program) (log : List (List LogLine)) (n m at there : ℕ) → IsFirstFaultIn P log n at → IsFirstFaultIn P log m there → IsSameFault n m at there
-one_first_fault P log n m at there f g = elim (ordered f.before g.before f.after g.after f.lines g.lines (sym f.sections ∙ g.sections)) as (λ _. IsSameFault n m at there) [
-  | one_place before lines ↦ same_fault P log n m at there f g before lines (same_condition P log n m at there f g (ap length before) (orders P log n m at there f g))
-  | left_first rest e ↦ absurd (fault_later P log n m at there rest f g e (orders P log n m at there f g))
-  | right_first rest e ↦ absurd (fault_later P log m n there at rest g f e (orders P log m n there at g f))
-]
+one_first_fault : (P : Program) (log : List (List LogLine)) (n m at there : ℕ) → IsFirstFaultIn P log n at
+    → IsFirstFaultIn P log m there → IsSameFault n m at there
+one_first_fault P log n m at there f g =
+    elim (ordered f.before g.before f.after g.after f.lines g.lines (sym f.sections ∙ g.sections)) as
+    (λ _. IsSameFault n m at there) [
+      | one_place before lines ↦ same_fault P log n m at there f g before lines
+          (same_condition P log n m at there f g (ap length before) (orders P log n m at there f g))
+      | left_first rest e ↦ absurd (fault_later P log n m at there rest f g e (orders P log n m at there f g))
+      | right_first rest e ↦ absurd (fault_later P log m n there at rest g f e (orders P log m n there at g f))
+    ]
 
 -- log files
 
 data IsLogCase (P : Program) (text u : List ℕ) : Type 0 where
   outside_it : (k : ℕ) → IsFirstOutside text k → u ≡ line (codes "refused: log line " ++ decimal k) → IsLogCase P text u
   other_count : (log : List (List LogLine)) → IsLogOf text log → length log ≢ length (conditions P)
-      → u ≡ line (codes "refused: log sections " ++ decimal (length log) ++ codes " of " ++ decimal (length (conditions P))) → IsLogCase P text u
-  at_fault : (log : List (List LogLine)) (number at : ℕ) → IsLogOf text log → length log ≡ length (conditions P) → IsFirstFaultIn P log number at
-      → u ≡ line (codes "refused: log line " ++ decimal at ++ codes ", " ++ fault_name (fault_kind number)) → IsLogCase P text u
+      → u ≡ line (codes "refused: log sections " ++ decimal (length log) ++ codes " of "
+      ++ decimal (length (conditions P))) → IsLogCase P text u
+  at_fault : (log : List (List LogLine)) (number at : ℕ) → IsLogOf text log → length log ≡ length (conditions P)
+      → IsFirstFaultIn P log number at
+      → u ≡ line (codes "refused: log line " ++ decimal at ++ codes ", " ++ fault_name (fault_kind number))
+      → IsLogCase P text u
 
 log_inside : (text : List ℕ) (k : ℕ) (log : List (List LogLine)) → IsFirstOutside text k → IsLogOf text log → ⊥
-log_inside text k log o is = logs_are_inside text k (record { version = is.version; sections = log; text_is = is.text_is; spelled = is.spelled }) o
+log_inside text k log o is =
+    logs_are_inside text k (record { version = is.version; sections = log; text_is = is.text_is; spelled = is.spelled })
+    o
 
 one_log_case : (P : Program) (text u v : List ℕ) → IsLogCase P text u → IsLogCase P text v → u ≡ v
-one_log_case P text u v (outside_it j a e) (outside_it k b f) = e ∙ ap (λ n. line (codes "refused: log line " ++ decimal n)) (one_outside text j k a b) ∙ sym f
+one_log_case P text u v (outside_it j a e) (outside_it k b f) =
+    e ∙ ap (λ n. line (codes "refused: log line " ++ decimal n)) (one_outside text j k a b) ∙ sym f
 one_log_case P text u v (outside_it j a e) (other_count log is many f) = absurd (log_inside text j log a is)
 one_log_case P text u v (outside_it j a e) (at_fault log n at is many b f) = absurd (log_inside text j log a is)
 one_log_case P text u v (other_count log is many e) (outside_it k b f) = absurd (log_inside text k log b is)
 one_log_case P text u v (other_count log is many e) (other_count other too more f) =
-    e ∙ ap (λ ss. line (codes "refused: log sections " ++ decimal (length ss) ++ codes " of " ++ decimal (length (conditions P)))) (one_log text log other is too) ∙ sym f
-one_log_case P text u v (other_count log is many e) (at_fault other n at too fits b f) = absurd (many (ap length (one_log text log other is too) ∙ fits))
+    e ∙ ap (λ ss. line (codes "refused: log sections " ++ decimal (length ss) ++ codes " of "
+    ++ decimal (length (conditions P)))) (one_log text log other is too) ∙ sym f
+one_log_case P text u v (other_count log is many e) (at_fault other n at too fits b f) =
+    absurd (many (ap length (one_log text log other is too) ∙ fits))
 one_log_case P text u v (at_fault log n at is fits a e) (outside_it k b f) = absurd (log_inside text k log b is)
-one_log_case P text u v (at_fault log n at is fits a e) (other_count other too many f) = absurd (many (ap length (one_log text other log too is) ∙ fits))
+one_log_case P text u v (at_fault log n at is fits a e) (other_count other too many f) =
+    absurd (many (ap length (one_log text other log too is) ∙ fits))
 one_log_case P text u v (at_fault log n at is fits a e) (at_fault other m there too suits b f) =
-    let moved : IsFirstFaultIn P other n at = subst (λ ss. IsFirstFaultIn P ss n at) (one_log text log other is too) a in
+    let moved : IsFirstFaultIn P other n at =
+    subst (λ ss. IsFirstFaultIn P ss n at) (one_log text log other is too) a in
     let fault = one_first_fault P other n m at there moved b in
     e ∙ ap (λ k. line (codes "refused: log line " ++ decimal k ++ codes ", " ++ fault_name (fault_kind n))) fault.place
-    ∙ ap (λ k. line (codes "refused: log line " ++ decimal there ++ codes ", " ++ fault_name (fault_kind k))) fault.number ∙ sym f
+    ∙ ap (λ k. line (codes "refused: log line " ++ decimal there ++ codes ", " ++ fault_name (fault_kind k)))
+    fault.number ∙ sym f
 
-log_case : (P : Program) (bytes : Option (List ℕ)) (u : List ℕ) → IsLogRefusal P bytes u → IsFileCase most_logged bytes (line (codes "refused: log Absent")) (line (codes "refused: log TooLong")) (IsLogCase P) u
+log_case : (P : Program) (bytes : Option (List ℕ)) (u : List ℕ) → IsLogRefusal P bytes u
+    → IsFileCase most_logged bytes (line (codes "refused: log Absent")) (line (codes "refused: log TooLong"))
+    (IsLogCase P) u
 log_case P bytes u recheck.absent = no_file refl refl
 log_case P bytes u (recheck.too_long {text = t} long) = long_file t refl long refl
 log_case P bytes u (recheck.outside {text = t} k short first) = short_file t refl short (outside_it k first refl)
-log_case P bytes u (recheck.other_number {text = t} log is many) = short_file t refl is.short (other_count log is many refl)
-log_case P bytes u (recheck.fails {text = t} log n at is many found) = short_file t refl is.short (at_fault log n at is many found refl)
+log_case P bytes u (recheck.other_number {text = t} log is many) =
+    short_file t refl is.short (other_count log is many refl)
+log_case P bytes u (recheck.fails {text = t} log n at is many found) =
+    short_file t refl is.short (at_fault log n at is many found refl)
 
-pub one_log_refusal : (P : Program) (bytes : Option (List ℕ)) (u v : List ℕ) → IsLogRefusal P bytes u → IsLogRefusal P bytes v → u ≡ v
+pub one_log_refusal : (P : Program) (bytes : Option (List ℕ)) (u v : List ℕ) → IsLogRefusal P bytes u
+    → IsLogRefusal P bytes v → u ≡ v
 one_log_refusal P bytes u v a b =
-    one_file_case most_logged bytes (line (codes "refused: log Absent")) (line (codes "refused: log TooLong")) (IsLogCase P) (one_log_case P) u v
+    one_file_case most_logged bytes (line (codes "refused: log Absent")) (line (codes "refused: log TooLong"))
+    (IsLogCase P) (one_log_case P) u v
     (log_case P bytes u a) (log_case P bytes v b)
 
 -- drawing files
 
 data IsDrawingCase (P : Program) (text u : List ℕ) : Type 0 where
-  none_drawn : ((n : ℕ) (xs : List State) → IsFileOf P text n xs → ⊥) → u ≡ line (codes "refused: drawing") → IsDrawingCase P text u
-  at_step : (n k : ℕ) (xs : List State) (c : Condition) → IsFileOf P text n xs → IsConditionAt P n c → FirstFailure P c (map drawn xs) k → u ≡ failed_step_text k → IsDrawingCase P text u
+  none_drawn : ((n : ℕ) (xs : List State) → IsFileOf P text n xs → ⊥) → u ≡ line (codes "refused: drawing")
+      → IsDrawingCase P text u
+  at_step : (n k : ℕ) (xs : List State) (c : Condition) → IsFileOf P text n xs → IsConditionAt P n c
+      → FirstFailure P c (map drawn xs) k → u ≡ failed_step_text k → IsDrawingCase P text u
 
 one_drawing_case : (P : Program) (text u v : List ℕ) → IsDrawingCase P text u → IsDrawingCase P text v → u ≡ v
 one_drawing_case P text u v (none_drawn none e) (none_drawn never f) = e ∙ sym f
@@ -219,18 +261,25 @@ one_drawing_case P text u v (at_step n k xs c file at fails e) (at_step m j ys d
     let same = file_one P text n m xs ys (file_shown P text n xs file) (file_shown P text m ys other) in
     let moved : IsConditionAt P m c = subst (λ i. IsConditionAt P i c) same.0 at in
     let condition = one_at P m c d moved there in
-    let here : FirstFailure P d (map drawn ys) k = subst (λ z. FirstFailure P z (map drawn ys) k) condition (subst (λ zs. FirstFailure P c (map drawn zs) k) same.1 fails) in
+    let here : FirstFailure P d (map drawn ys) k =
+    subst (λ z. FirstFailure P z (map drawn ys) k) condition
+    (subst (λ zs. FirstFailure P c (map drawn zs) k) same.1 fails) in
     e ∙ ap failed_step_text (failures_are_one.one P d (map drawn ys) k j here breaks) ∙ sym f
 
-drawing_case : (P : Program) (bytes : Option (List ℕ)) (u : List ℕ) → IsDrawingRefusal P bytes u → IsFileCase most_drawn bytes (line (codes "refused: drawing Absent")) (line (codes "refused: drawing TooLong")) (IsDrawingCase P) u
+drawing_case : (P : Program) (bytes : Option (List ℕ)) (u : List ℕ) → IsDrawingRefusal P bytes u
+    → IsFileCase most_drawn bytes (line (codes "refused: drawing Absent")) (line (codes "refused: drawing TooLong"))
+    (IsDrawingCase P) u
 drawing_case P bytes u replay.absent = no_file refl refl
 drawing_case P bytes u (replay.too_long {text = t} long) = long_file t refl long refl
 drawing_case P bytes u (replay.no_drawing {text = t} short none) = short_file t refl short (none_drawn none refl)
-drawing_case P bytes u (replay.fails {text = t} n k xs c short file at fails) = short_file t refl short (at_step n k xs c file at fails refl)
+drawing_case P bytes u (replay.fails {text = t} n k xs c short file at fails) =
+    short_file t refl short (at_step n k xs c file at fails refl)
 
-pub one_drawing_refusal : (P : Program) (bytes : Option (List ℕ)) (u v : List ℕ) → IsDrawingRefusal P bytes u → IsDrawingRefusal P bytes v → u ≡ v
+pub one_drawing_refusal : (P : Program) (bytes : Option (List ℕ)) (u v : List ℕ) → IsDrawingRefusal P bytes u
+    → IsDrawingRefusal P bytes v → u ≡ v
 one_drawing_refusal P bytes u v a b =
-    one_file_case most_drawn bytes (line (codes "refused: drawing Absent")) (line (codes "refused: drawing TooLong")) (IsDrawingCase P) (one_drawing_case P) u v
+    one_file_case most_drawn bytes (line (codes "refused: drawing Absent")) (line (codes "refused: drawing TooLong"))
+    (IsDrawingCase P) (one_drawing_case P) u v
     (drawing_case P bytes u a) (drawing_case P bytes v b)
 
 -- state files
@@ -239,37 +288,50 @@ abbrev IsStateCase : Program → List ℕ → List ℕ → Type 0
 IsStateCase P text u = (k : ℕ) × IsFaultyLine P text k × (u ≡ line (codes "refused: state line " ++ decimal k))
 
 one_state_case : (P : Program) (text u v : List ℕ) → IsStateCase P text u → IsStateCase P text v → u ≡ v
-one_state_case P text u v (j, a, e) (k, b, f) = e ∙ ap (λ n. line (codes "refused: state line " ++ decimal n)) (state_files_are_one.line P text j k a b) ∙ sym f
+one_state_case P text u v (j, a, e) (k, b, f) =
+    e ∙ ap (λ n. line (codes "refused: state line " ++ decimal n)) (state_files_are_one.line P text j k a b) ∙ sym f
 
-state_case : (P : Program) (bytes : Option (List ℕ)) (u : List ℕ) → IsStateRefusal P bytes u → IsFileCase most_stated bytes (line (codes "refused: state Absent")) (line (codes "refused: state TooLong")) (IsStateCase P) u
+state_case : (P : Program) (bytes : Option (List ℕ)) (u : List ℕ) → IsStateRefusal P bytes u
+    → IsFileCase most_stated bytes (line (codes "refused: state Absent")) (line (codes "refused: state TooLong"))
+    (IsStateCase P) u
 state_case P bytes u run.absent = no_file refl refl
 state_case P bytes u (run.too_long {text = t} long) = long_file t refl long refl
 state_case P bytes u (run.faulty {text = t} k short faulty) = short_file t refl short (k, faulty, refl)
 
-pub one_state_refusal : (P : Program) (bytes : Option (List ℕ)) (u v : List ℕ) → IsStateRefusal P bytes u → IsStateRefusal P bytes v → u ≡ v
+pub one_state_refusal : (P : Program) (bytes : Option (List ℕ)) (u v : List ℕ) → IsStateRefusal P bytes u
+    → IsStateRefusal P bytes v → u ≡ v
 one_state_refusal P bytes u v a b =
-    one_file_case most_stated bytes (line (codes "refused: state Absent")) (line (codes "refused: state TooLong")) (IsStateCase P) (one_state_case P) u v
+    one_file_case most_stated bytes (line (codes "refused: state Absent")) (line (codes "refused: state TooLong"))
+    (IsStateCase P) (one_state_case P) u v
     (state_case P bytes u a) (state_case P bytes v b)
 
 -- session files
 
 data IsSessionCase (text u : List ℕ) : Type 0 where
-  at_line : (k : ℕ) → IsFirstBad text (Line k) → u ≡ line (codes "refused: session line " ++ decimal k) → IsSessionCase text u
-  at_one_more : (k : ℕ) → IsFirstBad text (TooMany k) → u ≡ line (codes "refused: session TooMany at line " ++ decimal k) → IsSessionCase text u
+  at_line : (k : ℕ) → IsFirstBad text (Line k) → u ≡ line (codes "refused: session line " ++ decimal k)
+      → IsSessionCase text u
+  at_one_more : (k : ℕ) → IsFirstBad text (TooMany k)
+      → u ≡ line (codes "refused: session TooMany at line " ++ decimal k) → IsSessionCase text u
 
 one_session_case : (text u v : List ℕ) → IsSessionCase text u → IsSessionCase text v → u ≡ v
-one_session_case text u v (at_line j a e) (at_line k b f) = e ∙ ap (λ n. line (codes "refused: session line " ++ decimal n)) (one_bad_line text j k a b) ∙ sym f
+one_session_case text u v (at_line j a e) (at_line k b f) =
+    e ∙ ap (λ n. line (codes "refused: session line " ++ decimal n)) (one_bad_line text j k a b) ∙ sym f
 one_session_case text u v (at_line j a e) (at_one_more k b f) = absurd (bad_or_too_many text j k a b)
 one_session_case text u v (at_one_more j a e) (at_line k b f) = absurd (bad_or_too_many text k j b a)
-one_session_case text u v (at_one_more j a e) (at_one_more k b f) = e ∙ ap (λ n. line (codes "refused: session TooMany at line " ++ decimal n)) (one_too_many text j k a b) ∙ sym f
+one_session_case text u v (at_one_more j a e) (at_one_more k b f) =
+    e ∙ ap (λ n. line (codes "refused: session TooMany at line " ++ decimal n)) (one_too_many text j k a b) ∙ sym f
 
-session_case : (bytes : Option (List ℕ)) (u : List ℕ) → IsSessionRefusal bytes u → IsFileCase most_edited bytes (line (codes "refused: session Absent")) (line (codes "refused: session TooLong")) IsSessionCase u
+session_case : (bytes : Option (List ℕ)) (u : List ℕ) → IsSessionRefusal bytes u
+    → IsFileCase most_edited bytes (line (codes "refused: session Absent")) (line (codes "refused: session TooLong"))
+    IsSessionCase u
 session_case bytes u sessions.absent = no_file refl refl
 session_case bytes u (sessions.too_long {text = t} long) = long_file t refl long refl
 session_case bytes u (sessions.bad_line {text = t} k short bad) = short_file t refl short (at_line k bad refl)
 session_case bytes u (sessions.too_many {text = t} k short bad) = short_file t refl short (at_one_more k bad refl)
 
-pub one_session_refusal : (bytes : Option (List ℕ)) (u v : List ℕ) → IsSessionRefusal bytes u → IsSessionRefusal bytes v → u ≡ v
+pub one_session_refusal : (bytes : Option (List ℕ)) (u v : List ℕ) → IsSessionRefusal bytes u → IsSessionRefusal bytes v
+    → u ≡ v
 one_session_refusal bytes u v a b =
-    one_file_case most_edited bytes (line (codes "refused: session Absent")) (line (codes "refused: session TooLong")) IsSessionCase one_session_case u v
+    one_file_case most_edited bytes (line (codes "refused: session Absent")) (line (codes "refused: session TooLong"))
+    IsSessionCase one_session_case u v
     (session_case bytes u a) (session_case bytes v b)

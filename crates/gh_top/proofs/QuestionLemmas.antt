@@ -42,28 +42,42 @@ use Rattle.gh_top.proofs.DecidingLemmas.{alone_spelled}
 use Rattle.gh_top.proofs.FileLemmas.{one_file}
 use Rattle.gh_top.proofs.RuleLemmas.{first_asked}
 
-pub question_refused : (text : List ℕ) (e : ParseError) → length text ≤ most_bytes → IsQuestionRefusal text e → IsQuestionFrontError (Some text) (of_parse e)
+pub question_refused : (text : List ℕ) (e : ParseError) → length text ≤ most_bytes → IsQuestionRefusal text e
+    → IsQuestionFrontError (Some text) (of_parse e)
 question_refused text (parsing.Byte offset) short why = (text, refl, short, why)
-question_refused text (parsing.Deep span) short why = (text, refl, record { short = short; characters = why.0; deep = why.1 })
-question_refused text (parsing.Syntax span) short why = (text, refl, record { short = short; characters = why.characters; shallow = why.shallow }, why.none, why.place)
+question_refused text (parsing.Deep span) short why =
+    (text, refl, record { short = short; characters = why.0; deep = why.1 })
+question_refused text (parsing.Syntax span) short why =
+    (text, refl, record { short = short; characters = why.characters; shallow = why.shallow }, why.none, why.place)
 question_refused text parsing.OutOfMemory short why = tt
 
 pub asked_text : (text : List ℕ) (q : Question) → length text ≤ most_bytes → IsAsked text q → IsQuestionText text q
-asked_text text q short p = record { readable = record { short = short; characters = p.characters; shallow = p.shallow }; poses = p.spelled }
+asked_text text q short p =
+    record { readable = record { short = short; characters = p.characters; shallow = p.shallow }; poses = p.spelled }
 
-pub ask_refused : (text : List ℕ) (q : Question) (e : AskError) → IsQuestionText text q → IsAskRefusal q e → IsQuestionFrontError (Some text) (of_ask e)
+pub ask_refused : (text : List ℕ) (q : Question) (e : AskError) → IsQuestionText text q → IsAskRefusal q e
+    → IsQuestionFrontError (Some text) (of_ask e)
 ask_refused text q (asking.TypeError number span) posed why = (text, q, refl, posed, first_asked q number span why)
 ask_refused text q (asking.Limit passed) posed why = (text, q, refl, posed, why.0, why.1)
 ask_refused text q asking.OutOfMemory posed why = tt
 
 -- the reports
-pub entailed_report : (q : Question) (s : Section) (status : Status) (u : List ℕ) → IsAnswer q (Yes s) → status ≡ Verified → u ≡ line (codes "entailed") ++ log_text 2 (s.lines ∷ [])
+pub entailed_report : (q : Question) (s : Section) (status : Status) (u : List ℕ) → IsAnswer q (Yes s)
+    → status ≡ Verified → u ≡ line (codes "entailed") ++ log_text 2 (s.lines ∷ [])
     → IsReplyTo q status u
 entailed_report q s status u y a b =
     subst (λ t. IsReplyTo q t u) (sym a)
-    (entailed (record { entailed = y.0; section = s.lines; valid = y.1.valid; spelled = alone_spelled s.lines y.1.spelled; text_is = b }))
+    (entailed (record {
+      entailed = y.0;
+      section = s.lines;
+      valid = y.1.valid;
+      spelled = alone_spelled s.lines y.1.spelled;
+      text_is = b;
+    }))
 
-pub failing_report : (q : Question) (x : kept.State) (shown front u : List ℕ) → IsTyped q → FailsIn q x → All HasValues (x ∷ []) → shown ≡ drawing_text 1 (x ∷ []) → front ≡ line (codes "not entailed") → u ≡ front ++ shown
+pub failing_report : (q : Question) (x : kept.State) (shown front u : List ℕ) → IsTyped q → FailsIn q x
+    → All HasValues (x ∷ []) → shown ≡ drawing_text 1 (x ∷ []) → front ≡ line (codes "not entailed")
+    → u ≡ front ++ shown
     → IsFailingReport q u
 failing_report q x shown front u typed f values told begun a =
     record {
@@ -71,30 +85,44 @@ failing_report q x shown front u typed f values told begun a =
       proper = f.proper;
       fails = f.fails;
       drawable = state_drawable (names q.variables) x (All-head HasValues x [] values);
-      text_is = a ∙ ap (λ z. z ++ shown) begun ∙ ap (λ z. line (codes "not entailed") ++ z) (told ∙ one_told (names q.variables) 1 x (variables_are_distinct q typed) f.names);
+      text_is =
+          a ∙ ap (λ z. z ++ shown) begun
+          ∙ ap (λ z. line (codes "not entailed") ++ z)
+          (told ∙ one_told (names q.variables) 1 x (variables_are_distinct q typed) f.names);
     }
 
-pub failing_reply : (q : Question) (status : Status) (u : List ℕ) → status ≡ Refuted → IsFailingReport q u → IsReplyTo q status u
+pub failing_reply : (q : Question) (status : Status) (u : List ℕ) → status ≡ Refuted → IsFailingReport q u
+    → IsReplyTo q status u
 failing_reply q status u a f = subst (λ t. IsReplyTo q t u) (sym a) (failing f)
 
 -- the answers
-reply_answers : (q : Question) (s : Status) (u : List ℕ) (bytes : Option (List ℕ)) → PosesAdmitted bytes q → IsReplyTo q s u → RepliesToQuestion bytes s u
-reply_answers q _ u bytes p (entailed v) f words files asks at = entail_verified asks (subst (λ b. PosesAdmitted b q) (sym at) p) v
-reply_answers q _ u bytes p (failing v) f words files asks at = entail_refuted asks (subst (λ b. PosesAdmitted b q) (sym at) p) v
+reply_answers : (q : Question) (s : Status) (u : List ℕ) (bytes : Option (List ℕ)) → PosesAdmitted bytes q
+    → IsReplyTo q s u → RepliesToQuestion bytes s u
+reply_answers q _ u bytes p (entailed v) f words files asks at =
+    entail_verified asks (subst (λ b. PosesAdmitted b q) (sym at) p) v
+reply_answers q _ u bytes p (failing v) f words files asks at =
+    entail_refuted asks (subst (λ b. PosesAdmitted b q) (sym at) p) v
 
-pub decided_replies : (q : Question) (file : FileText) (s : Status) (u : List ℕ) → ((bytes : Option (List ℕ)) → Shows most_bytes bytes file → PosesAdmitted bytes q) → IsReplyTo q s u
+pub decided_replies : (q : Question) (file : FileText) (s : Status) (u : List ℕ)
+    → ((bytes : Option (List ℕ)) → Shows most_bytes bytes file → PosesAdmitted bytes q) → IsReplyTo q s u
     → (bytes : Option (List ℕ)) → Shows most_bytes bytes file → RepliesToQuestion bytes s u
 decided_replies q file s u posed r bytes shows = reply_answers q s u bytes (posed bytes shows) r
 
-pub refused_replies : (file : FileText) (x : Refusal) (s : Status) (u : List ℕ) → ((bytes : Option (List ℕ)) → Shows most_bytes bytes file → IsQuestionRefused bytes x) → s ≡ TextRefused → u ≡ refusal_text x
+pub refused_replies : (file : FileText) (x : Refusal) (s : Status) (u : List ℕ)
+    → ((bytes : Option (List ℕ)) → Shows most_bytes bytes file → IsQuestionRefused bytes x) → s ≡ TextRefused
+    → u ≡ refusal_text x
     → (bytes : Option (List ℕ)) → Shows most_bytes bytes file → RepliesToQuestion bytes s u
-refused_replies file x s u why a b bytes shows f words files asks at = rw (a, b) (entail_refused x asks (subst (λ o. IsQuestionRefused o x) (sym at) (why bytes shows)))
+refused_replies file x s u why a b bytes shows f words files asks at =
+    rw (a, b) (entail_refused x asks (subst (λ o. IsQuestionRefused o x) (sym at) (why bytes shows)))
 
 -- the file of a question is read, and this is the answer
-pub question_answer : (t : Option Table) (r : Request) (name : List ℕ) (file : FileText) (s : Status) (u : List ℕ) → r ≡ Entail name → IsSourceRead t (source_of r) file
-    → ((bytes : Option (List ℕ)) → Shows most_bytes bytes file → RepliesToQuestion bytes s u) → (words : List (List ℕ)) → IsRequest words r → HasAnswer t words s u
+pub question_answer : (t : Option Table) (r : Request) (name : List ℕ) (file : FileText) (s : Status) (u : List ℕ)
+    → r ≡ Entail name → IsSourceRead t (source_of r) file
+    → ((bytes : Option (List ℕ)) → Shows most_bytes bytes file → RepliesToQuestion bytes s u) → (words : List (List ℕ))
+    → IsRequest words r → HasAnswer t words s u
 question_answer t r name file s u is read k words asks =
     let asked : IsRequest words (Entail name) = subst (λ x. IsRequest words x) is asks in
-    let source : IsSourceRead t (source_of (Entail name)) file = subst (λ x. IsSourceRead t (source_of x) file) is read in
+    let source : IsSourceRead t (source_of (Entail name)) file =
+    subst (λ x. IsSourceRead t (source_of x) file) is read in
     let f = one_file t words (Entail name) source.bytes asked source.are in
     record { files = f.0; told = f.1; answer = k source.bytes source.shows name words f.0 asked f.2 }

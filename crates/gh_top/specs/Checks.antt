@@ -16,4 +16,5 @@ pub data IsProgramVerdict (P : Program) : Status → List ℕ → Type 0 where
 -- for the bytes of a program text, or for no file: the refusal of the text, or the verdict on its program
 pub data IsCheckText (bytes : Option (List ℕ)) : Status → List ℕ → Type 0 where
   of_refusal : (x : Refusal) → IsProgramRefused bytes x → IsCheckText bytes TextRefused (refusal_text x)
-  of_verdict : {text u : List ℕ} {P : Program} {s : Status} → bytes ≡ Some text → IsAccepted text P → IsProgramVerdict P s u → IsCheckText bytes s u
+  of_verdict : {text u : List ℕ} {P : Program} {s : Status} → bytes ≡ Some text → IsAccepted text P
+      → IsProgramVerdict P s u → IsCheckText bytes s u

@@ -32,11 +32,16 @@ pub record IsQuestionText (text : List ℕ) (q : Question) : Type 0 where
 abbrev pub IsQuestionRefused : Option (List ℕ) → Refusal → Type 0
 IsQuestionRefused bytes Absent = bytes ≡ None
 IsQuestionRefused bytes TooLong = (text : List ℕ) × (bytes ≡ Some text) × (most_bytes < length text)
-IsQuestionRefused bytes (Byte k) = (text : List ℕ) × (bytes ≡ Some text) × (length text ≤ most_bytes) × IsFirstByte text k
+IsQuestionRefused bytes (Byte k) =
+    (text : List ℕ) × (bytes ≡ Some text) × (length text ≤ most_bytes) × IsFirstByte text k
 IsQuestionRefused bytes (Deep p) = (text : List ℕ) × (bytes ≡ Some text) × IsDeepAt text p
-IsQuestionRefused bytes (Syntax p) = (text : List ℕ) × (bytes ≡ Some text) × IsReadable text × ((q : Question) → Poses text q → ⊥) × IsPlace IsQuestion text p
-IsQuestionRefused bytes (TypeError r p) = (text : List ℕ) × (q : Question) × (bytes ≡ Some text) × IsQuestionText text q × IsFirstBroken q (rule_number r) p
-IsQuestionRefused bytes (Limit l) = (text : List ℕ) × (q : Question) × (bytes ≡ Some text) × IsQuestionText text q × IsTyped q × IsLimit q l
+IsQuestionRefused bytes (Syntax p) =
+    (text : List ℕ) × (bytes ≡ Some text) × IsReadable text × ((q : Question) → Poses text q → ⊥)
+    × IsPlace IsQuestion text p
+IsQuestionRefused bytes (TypeError r p) =
+    (text : List ℕ) × (q : Question) × (bytes ≡ Some text) × IsQuestionText text q × IsFirstBroken q (rule_number r) p
+IsQuestionRefused bytes (Limit l) =
+    (text : List ℕ) × (q : Question) × (bytes ≡ Some text) × IsQuestionText text q × IsTyped q × IsLimit q l
 
 -- the bytes are a text that poses the admitted question
 pub record PosesAdmitted (bytes : Option (List ℕ)) (q : Question) : Type 0 where

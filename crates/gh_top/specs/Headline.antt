@@ -65,45 +65,74 @@ pub record Asks (words : List (List ℕ)) (files : Files) (r : Request) (P : Pro
 pub data Answer (words : List (List ℕ)) (files : Files) : Status → List ℕ → Type 0 where
   -- in any mode: the words are no request; about a program: its text is refused
   usage : ((r : Request) → IsRequest words r → ⊥) → Answer words files Usage (line (codes "refused: usage"))
-  refused : {r : Request} (x : Refusal) → IsRequest words r → IsOnProgram r → IsProgramRefused (asked_text r files) x → Answer words files TextRefused (refusal_text x)
+  refused : {r : Request} (x : Refusal) → IsRequest words r → IsOnProgram r → IsProgramRefused (asked_text r files) x
+      → Answer words files TextRefused (refusal_text x)
   -- check FILE
-  check_verified : {f : List ℕ} {P : Program} → Asks words files (Check f) P → ListedAreValid P → Answer words files Verified (verified_text P)
-  check_refuted : {f u : List ℕ} {P : Program} → Asks words files (Check f) P → IsRefutation P u → Answer words files Refuted u
+  check_verified : {f : List ℕ} {P : Program} → Asks words files (Check f) P → ListedAreValid P
+      → Answer words files Verified (verified_text P)
+  check_refuted : {f u : List ℕ} {P : Program} → Asks words files (Check f) P → IsRefutation P u
+      → Answer words files Refuted u
   -- log FILE
-  log_verified : {f : List ℕ} {P : Program} (log : List (List LogLine)) → Asks words files (Log f) P → ListedAreValid P → IsValidLog P log → IsSpelled 2 log → Answer words files Verified (log_text 2 log)
-  log_refuted : {f u : List ℕ} {P : Program} → Asks words files (Log f) P → IsRefutation P u → Answer words files Refuted u
+  log_verified : {f : List ℕ} {P : Program} (log : List (List LogLine)) → Asks words files (Log f) P → ListedAreValid P
+      → IsValidLog P log → IsSpelled 2 log → Answer words files Verified (log_text 2 log)
+  log_refuted : {f u : List ℕ} {P : Program} → Asks words files (Log f) P → IsRefutation P u
+      → Answer words files Refuted u
   -- recheck FILE LOG
-  recheck_refused : {f l u : List ℕ} {P : Program} → Asks words files (Recheck f l) P → IsLogRefusal P (files 2) u → Answer words files LogRefused u
-  recheck_verified : {f l : List ℕ} {P : Program} → Asks words files (Recheck f l) P → IsValidLogFile P (files 2) → Answer words files Verified (rechecked_text P)
+  recheck_refused : {f l u : List ℕ} {P : Program} → Asks words files (Recheck f l) P → IsLogRefusal P (files 2) u
+      → Answer words files LogRefused u
+  recheck_verified : {f l : List ℕ} {P : Program} → Asks words files (Recheck f l) P → IsValidLogFile P (files 2)
+      → Answer words files Verified (rechecked_text P)
   -- paths FILE
   paths_listed : {f : List ℕ} {P : Program} → Asks words files (Paths f) P → Answer words files Listed (listing P)
   -- replay FILE DRAWING
-  replay_refused : {f d u : List ℕ} {P : Program} → Asks words files (Replay f d) P → IsDrawingRefusal P (files 2) u → Answer words files LogRefused u
-  replay_refuted : {f d : List ℕ} {n : ℕ} {P : Program} → Asks words files (Replay f d) P → IsRefutingFile P (files 2) n → Answer words files Refuted (replayed_text P n)
+  replay_refused : {f d u : List ℕ} {P : Program} → Asks words files (Replay f d) P → IsDrawingRefusal P (files 2) u
+      → Answer words files LogRefused u
+  replay_refuted : {f d : List ℕ} {n : ℕ} {P : Program} → Asks words files (Replay f d) P → IsRefutingFile P (files 2) n
+      → Answer words files Refuted (replayed_text P n)
   -- smallest FILE
-  smallest_verified : {f : List ℕ} {P : Program} → Asks words files (Smallest f) P → ListedAreValid P → Answer words files Verified (verified_text P)
-  smallest_refuted : {f u : List ℕ} {P : Program} → Asks words files (Smallest f) P → IsSmallestReport P u → Answer words files Refuted u
+  smallest_verified : {f : List ℕ} {P : Program} → Asks words files (Smallest f) P → ListedAreValid P
+      → Answer words files Verified (verified_text P)
+  smallest_refuted : {f u : List ℕ} {P : Program} → Asks words files (Smallest f) P → IsSmallestReport P u
+      → Answer words files Refuted u
   -- stress N
-  stress_verified : {n : ℕ} {P : Program} → Asks words files (Stress n) P → ListedAreValid P → Answer words files Verified (stressed_text n P)
-  stress_refuted : {n : ℕ} {u : List ℕ} {P : Program} → Asks words files (Stress n) P → IsRefutation P u → Answer words files Refuted u
+  stress_verified : {n : ℕ} {P : Program} → Asks words files (Stress n) P → ListedAreValid P
+      → Answer words files Verified (stressed_text n P)
+  stress_refuted : {n : ℕ} {u : List ℕ} {P : Program} → Asks words files (Stress n) P → IsRefutation P u
+      → Answer words files Refuted u
   -- smt FILE K
-  smt_listed : {f : List ℕ} {n : ℕ} {P : Program} (proc : Procedure) (c : Condition) → Asks words files (Smt f n) P → IsConditionAt P n c → IsOf P c proc → asserted_count P proc c ≤ most_asserted → IsDecidedByScript P proc c → Answer words files Listed (smt_text P proc c)
-  smt_no_condition : {f : List ℕ} {n : ℕ} {P : Program} → Asks words files (Smt f n) P → length (conditions P) < n → Answer words files LogRefused (unnumbered_text P n)
-  smt_too_long : {f : List ℕ} {n : ℕ} {P : Program} (proc : Procedure) (c : Condition) → Asks words files (Smt f n) P → IsConditionAt P n c → IsOf P c proc → most_asserted < asserted_count P proc c → Answer words files TextRefused (too_long_text P proc c)
+  smt_listed : {f : List ℕ} {n : ℕ} {P : Program} (proc : Procedure) (c : Condition) → Asks words files (Smt f n) P
+      → IsConditionAt P n c → IsOf P c proc → asserted_count P proc c ≤ most_asserted → IsDecidedByScript P proc c
+      → Answer words files Listed (smt_text P proc c)
+  smt_no_condition : {f : List ℕ} {n : ℕ} {P : Program} → Asks words files (Smt f n) P → length (conditions P) < n
+      → Answer words files LogRefused (unnumbered_text P n)
+  smt_too_long : {f : List ℕ} {n : ℕ} {P : Program} (proc : Procedure) (c : Condition) → Asks words files (Smt f n) P
+      → IsConditionAt P n c → IsOf P c proc → most_asserted < asserted_count P proc c
+      → Answer words files TextRefused (too_long_text P proc c)
   -- run FILE STATE N
-  run_refused : {f x u : List ℕ} {n : ℕ} {P : Program} → Asks words files (Run f x n) P → IsStateRefusal P (files 2) u → Answer words files LogRefused u
-  run_unmet : {f x : List ℕ} {n : ℕ} {P : Program} → Asks words files (Run f x n) P → IsRunFrom P (files 2) n report.Unmet → Answer words files Unmet unmet_text
-  run_stopped : {f x : List ℕ} {n : ℕ} {P : Program} (k : ℕ) (s : State) → Asks words files (Run f x n) P → IsRunFrom P (files 2) n (report.Stopped k s) → Answer words files Stopped (stopped_text k s)
-  run_faulted : {f x : List ℕ} {n : ℕ} {P : Program} (k : ℕ) (s : State) → Asks words files (Run f x n) P → IsRunFrom P (files 2) n (report.Faulted k s) → Answer words files Refuted (fault_text k s)
-  run_held : {f x : List ℕ} {n : ℕ} {P : Program} (k : ℕ) (s : State) → Asks words files (Run f x n) P → IsRunFrom P (files 2) n (report.Ended k s true) → Answer words files Ran (held_text k s)
-  run_failed : {f x : List ℕ} {n : ℕ} {P : Program} (k : ℕ) (s : State) → Asks words files (Run f x n) P → IsRunFrom P (files 2) n (report.Ended k s false) → Answer words files Refuted (failed_text k s)
+  run_refused : {f x u : List ℕ} {n : ℕ} {P : Program} → Asks words files (Run f x n) P → IsStateRefusal P (files 2) u
+      → Answer words files LogRefused u
+  run_unmet : {f x : List ℕ} {n : ℕ} {P : Program} → Asks words files (Run f x n) P
+      → IsRunFrom P (files 2) n report.Unmet → Answer words files Unmet unmet_text
+  run_stopped : {f x : List ℕ} {n : ℕ} {P : Program} (k : ℕ) (s : State) → Asks words files (Run f x n) P
+      → IsRunFrom P (files 2) n (report.Stopped k s) → Answer words files Stopped (stopped_text k s)
+  run_faulted : {f x : List ℕ} {n : ℕ} {P : Program} (k : ℕ) (s : State) → Asks words files (Run f x n) P
+      → IsRunFrom P (files 2) n (report.Faulted k s) → Answer words files Refuted (fault_text k s)
+  run_held : {f x : List ℕ} {n : ℕ} {P : Program} (k : ℕ) (s : State) → Asks words files (Run f x n) P
+      → IsRunFrom P (files 2) n (report.Ended k s true) → Answer words files Ran (held_text k s)
+  run_failed : {f x : List ℕ} {n : ℕ} {P : Program} (k : ℕ) (s : State) → Asks words files (Run f x n) P
+      → IsRunFrom P (files 2) n (report.Ended k s false) → Answer words files Refuted (failed_text k s)
   -- session FILE
-  session_refused : {f u : List ℕ} → IsRequest words (Session f) → IsSessionRefusal (files 1) u → Answer words files LogRefused u
-  session_listed : {f u : List ℕ} → IsRequest words (Session f) → IsSessionReport (files 1) u → Answer words files Listed u
+  session_refused : {f u : List ℕ} → IsRequest words (Session f) → IsSessionRefusal (files 1) u
+      → Answer words files LogRefused u
+  session_listed : {f u : List ℕ} → IsRequest words (Session f) → IsSessionReport (files 1) u
+      → Answer words files Listed u
   -- entail FILE
-  entail_refused : {f : List ℕ} (x : Refusal) → IsRequest words (Entail f) → IsQuestionRefused (files 1) x → Answer words files TextRefused (refusal_text x)
-  entail_verified : {f u : List ℕ} {q : Question} → IsRequest words (Entail f) → PosesAdmitted (files 1) q → IsEntailedReport q u → Answer words files Verified u
-  entail_refuted : {f u : List ℕ} {q : Question} → IsRequest words (Entail f) → PosesAdmitted (files 1) q → IsFailingReport q u → Answer words files Refuted u
+  entail_refused : {f : List ℕ} (x : Refusal) → IsRequest words (Entail f) → IsQuestionRefused (files 1) x
+      → Answer words files TextRefused (refusal_text x)
+  entail_verified : {f u : List ℕ} {q : Question} → IsRequest words (Entail f) → PosesAdmitted (files 1) q
+      → IsEntailedReport q u → Answer words files Verified u
+  entail_refuted : {f u : List ℕ} {q : Question} → IsRequest words (Entail f) → PosesAdmitted (files 1) q
+      → IsFailingReport q u → Answer words files Refuted u
 
 -- some files that are told give this answer
 pub record HasAnswer (table : Option Table) (words : List (List ℕ)) (status : Status) (text : List ℕ) : Type 0 where
@@ -162,4 +191,5 @@ IsWrittenWholeOrOutOfMemory table words w status = (status ≡ OutOfMemory) ⊎ 
 -- 4: where neither count rises, a lack of memory alone keeps the answer from being written whole
 abbrev pub IsComplete : List (List ℕ) → Outside → Status → Type 0
 IsComplete words o status =
-    (InputsCountRose o.reading → ⊥) → (SinkCountRose o.writing → ⊥) → IsWrittenWholeOrOutOfMemory (table_of o) words o.writing status
+    (InputsCountRose o.reading → ⊥) → (SinkCountRose o.writing → ⊥)
+    → IsWrittenWholeOrOutOfMemory (table_of o) words o.writing status

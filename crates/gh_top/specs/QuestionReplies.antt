@@ -31,4 +31,6 @@ pub data IsReplyTo (q : Question) : Status → List ℕ → Type 0 where
 
 -- for all words that ask about a question, and files of which the first is these bytes, this is the answer
 abbrev pub RepliesToQuestion : Option (List ℕ) → Status → List ℕ → Type 0
-RepliesToQuestion bytes status text = (f : List ℕ) (words : List (List ℕ)) (files : Files) → IsRequest words (Entail f) → files 1 ≡ bytes → Answer words files status text
+RepliesToQuestion bytes status text =
+    (f : List ℕ) (words : List (List ℕ)) (files : Files) → IsRequest words (Entail f) → files 1 ≡ bytes
+    → Answer words files status text

@@ -13,9 +13,12 @@ use Rattle.gh_top.specs.declared.words.Request.{Request}
 -- none, the first file, or the first and the second file, which is begun only where the program is accepted.
 pub data IsOrder (table : Option Table) (words : List (List ℕ)) : List (List ℕ) → ℕ → Type 0 where
   nothing : IsOrder table words [] 0
-  first : {f : List ℕ} {most : ℕ} (r : Request) → IsRequest words r → source_of r ≡ from_file f most → IsOrder table words (f ∷ []) (calls_for (told table f) most)
-  second : {f g : List ℕ} {most limit : ℕ} {P : Program} (r : Request) (files : Files) → AreAsTold table words files → Asks words files r P
-      → source_of r ≡ from_file f most → second_file r ≡ Some (g, limit) → IsOrder table words (f ∷ g ∷ []) (calls_for (told table f) most + calls_for (told table g) limit)
+  first : {f : List ℕ} {most : ℕ} (r : Request) → IsRequest words r → source_of r ≡ from_file f most
+      → IsOrder table words (f ∷ []) (calls_for (told table f) most)
+  second : {f g : List ℕ} {most limit : ℕ} {P : Program} (r : Request) (files : Files) → AreAsTold table words files
+      → Asks words files r P
+      → source_of r ≡ from_file f most → second_file r ≡ Some (g, limit)
+      → IsOrder table words (f ∷ g ∷ []) (calls_for (told table f) most + calls_for (told table g) limit)
 
 -- some names were begun after those before them, where names are told; the telling may end
 abbrev pub AddsNames : Option (List (List ℕ)) → Option (List (List ℕ)) → List (List ℕ) → Type 0

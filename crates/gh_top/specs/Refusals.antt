@@ -39,11 +39,16 @@ pub record IsDeepAt (text : List ℕ) (p : Span) : Type 0 where
 abbrev pub IsProgramRefused : Option (List ℕ) → Refusal → Type 0
 IsProgramRefused bytes Absent = bytes ≡ None
 IsProgramRefused bytes TooLong = (text : List ℕ) × (bytes ≡ Some text) × (most_bytes < length text)
-IsProgramRefused bytes (Byte k) = (text : List ℕ) × (bytes ≡ Some text) × (length text ≤ most_bytes) × IsFirstByte text k
+IsProgramRefused bytes (Byte k) =
+    (text : List ℕ) × (bytes ≡ Some text) × (length text ≤ most_bytes) × IsFirstByte text k
 IsProgramRefused bytes (Deep place) = (text : List ℕ) × (bytes ≡ Some text) × IsDeepAt text place
-IsProgramRefused bytes (Syntax place) = (text : List ℕ) × (bytes ≡ Some text) × IsReadable text × ((P : Program) → Spells text P → ⊥) × IsPlace IsProgram text place
-IsProgramRefused bytes (TypeError r place) = (text : List ℕ) × (P : Program) × (bytes ≡ Some text) × IsText text P × IsFirstBroken P (rule_number r) place
-IsProgramRefused bytes (Limit l) = (text : List ℕ) × (P : Program) × (bytes ≡ Some text) × IsText text P × IsTyped P × IsFirstLimit P l
+IsProgramRefused bytes (Syntax place) =
+    (text : List ℕ) × (bytes ≡ Some text) × IsReadable text × ((P : Program) → Spells text P → ⊥)
+    × IsPlace IsProgram text place
+IsProgramRefused bytes (TypeError r place) =
+    (text : List ℕ) × (P : Program) × (bytes ≡ Some text) × IsText text P × IsFirstBroken P (rule_number r) place
+IsProgramRefused bytes (Limit l) =
+    (text : List ℕ) × (P : Program) × (bytes ≡ Some text) × IsText text P × IsTyped P × IsFirstLimit P l
 
 -- the text spells an admitted program
 pub record IsAccepted (text : List ℕ) (P : Program) : Type 0 where
@@ -60,4 +65,5 @@ refusal_text (Byte k) = line (codes "refused: Byte at offset " ++ decimal k)
 refusal_text (Deep p) = refused_at (codes "Deep") p
 refusal_text (Syntax p) = refused_at (codes "Syntax") p
 refusal_text (TypeError r p) = refused_at (rule_name r) p
-refusal_text (Limit l) = line (codes "refused: Limit " ++ kind_name (kind_of l.kind) ++ codes " at " ++ place_text l.span ++ codes ", count " ++ decimal l.count)
+refusal_text (Limit l) = line (codes "refused: Limit " ++ kind_name (kind_of l.kind) ++ codes " at "
+    ++ place_text l.span ++ codes ", count " ++ decimal l.count)

@@ -21,8 +21,10 @@ most_stated = 4194304
 -- why a state file is refused: it is absent, too long, or has a line that isn't as said
 pub data IsStateRefusal (P : Program) : Option (List ℕ) → List ℕ → Type 0 where
   absent : IsStateRefusal P None (line (codes "refused: state Absent"))
-  too_long : {text : List ℕ} → most_stated < length text → IsStateRefusal P (Some text) (line (codes "refused: state TooLong"))
-  faulty : {text : List ℕ} (k : ℕ) → length text ≤ most_stated → IsFaultyLine P text k → IsStateRefusal P (Some text) (line (codes "refused: state line " ++ decimal k))
+  too_long : {text : List ℕ} → most_stated < length text
+      → IsStateRefusal P (Some text) (line (codes "refused: state TooLong"))
+  faulty : {text : List ℕ} (k : ℕ) → length text ≤ most_stated → IsFaultyLine P text k
+      → IsStateRefusal P (Some text) (line (codes "refused: state line " ++ decimal k))
 
 -- the run of at most n steps from the file's state comes to the report
 pub record IsRunFrom (P : Program) (bytes : Option (List ℕ)) (n : ℕ) (report : Report) : Type 0 where

@@ -27,8 +27,10 @@ most_edited = 4194304
 -- many separators
 pub data IsSessionRefusal : Option (List ℕ) → List ℕ → Type 0 where
   absent : IsSessionRefusal None (line (codes "refused: session Absent"))
-  too_long : {text : List ℕ} → most_edited < length text → IsSessionRefusal (Some text) (line (codes "refused: session TooLong"))
-  bad_line : {text : List ℕ} (k : ℕ) → length text ≤ most_edited → lines.IsFirstBad text (Line k) → IsSessionRefusal (Some text) (line (codes "refused: session line " ++ decimal k))
+  too_long : {text : List ℕ} → most_edited < length text
+      → IsSessionRefusal (Some text) (line (codes "refused: session TooLong"))
+  bad_line : {text : List ℕ} (k : ℕ) → length text ≤ most_edited → lines.IsFirstBad text (Line k)
+      → IsSessionRefusal (Some text) (line (codes "refused: session line " ++ decimal k))
   too_many : {text : List ℕ} (k : ℕ) → length text ≤ most_edited → lines.IsFirstBad text (TooMany k)
       → IsSessionRefusal (Some text) (line (codes "refused: session TooMany at line " ++ decimal k))
 
@@ -38,7 +40,8 @@ pub data AreAsked (P : Program) : List Condition → Type 0 where
   to_first : (k : ℕ) (c : Condition) → IsReached P k c → (IsConditionValid P c → ⊥) → AreAsked P (take k (conditions P))
 
 -- n different essences of these conditions are new, and are kept after those that were
-pub record IsKeptToo (P : Program) (cs : List Condition) (old : List Essence) (n : ℕ) (kept : List Essence) : Type 0 where
+pub record IsKeptToo (P : Program) (cs : List Condition) (old : List Essence) (n : ℕ)
+    (kept : List Essence) : Type 0 where
   pub all : List Essence
   pub are : AreEssences P cs all
   pub new : List Essence
@@ -57,7 +60,8 @@ pub data CountsDecided (text : List ℕ) (old : List Essence) : ℕ → List Ess
 abbrev pub texts_after : List ℕ → List Edit → List Edit → List (List ℕ)
 texts_after head before [] = []
 texts_after head before (e ∷ es) =
-    cond e.asks (whole head (before ++ e ∷ []) ∷ texts_after head (before ++ e ∷ []) es) (texts_after head (before ++ e ∷ []) es)
+    cond e.asks (whole head (before ++ e ∷ []) ∷ texts_after head (before ++ e ∷ []) es)
+    (texts_after head (before ++ e ∷ []) es)
 
 -- `answer J, D decided`
 abbrev pub answer_line : ℕ → ℕ → List ℕ

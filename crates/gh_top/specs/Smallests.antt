@@ -33,7 +33,8 @@ smallest_text P proc k cells c xs =
 -- there is no cell
 pub data IsBoundText (P : Program) (proc : Procedure) (c : Condition) : ℕ → List ℕ → Type 0 where
   no_cell : IsBoundText P proc c 0 []
-  some_cells : {cells : ℕ} (section : List LogLine) → 0 < cells → IsValidSection (bounded_by (problem (symbolic_of P proc c)) cells) section → IsSpelled 2 (section ∷ [])
+  some_cells : {cells : ℕ} (section : List LogLine) → 0 < cells
+      → IsValidSection (bounded_by (problem (symbolic_of P proc c)) cells) section → IsSpelled 2 (section ∷ [])
       → IsBoundText P proc c cells (log_text 2 (section ∷ []))
 
 -- the text of a log of version 2 with this section; nothing where there is none

@@ -42,7 +42,8 @@ too_long_text P proc c = script_limit_line proc.name.span (asserted_count P proc
 
 -- the script of a condition, or that it is too long
 pub data IsScriptReport (P : Program) (proc : Procedure) (c : Condition) : Status → List ℕ → Type 0 where
-  listed : asserted_count P proc c ≤ most_asserted → IsDecidedByScript P proc c → IsScriptReport P proc c Listed (smt_text P proc c)
+  listed : asserted_count P proc c ≤ most_asserted → IsDecidedByScript P proc c
+      → IsScriptReport P proc c Listed (smt_text P proc c)
   too_long : most_asserted < asserted_count P proc c → IsScriptReport P proc c TextRefused (too_long_text P proc c)
 
 -- the same of a condition that is kept

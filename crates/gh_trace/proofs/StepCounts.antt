@@ -16,22 +16,29 @@ use Rattle.gh_trace.proofs.FirstRefuted.{placed}
 use Rattle.gh_trace.proofs.Insides.{contained_at}
 
 -- a condition of a procedure goes one of its courses
-pub among : (P : Program) (proc : Procedure) (c : Condition) → IsCondition P c → IsOf P c proc → Contains (courses_of P proc) (course c.start c.way)
+pub among : (P : Program) (proc : Procedure) (c : Condition) → IsCondition P c → IsOf P c proc
+    → Contains (courses_of P proc) (course c.start c.way)
 among P proc c is of =
-    subst (λ q. Contains (courses_of P q) (course c.start c.way)) (one_value (slice_get P.procedures c.procedure) is.procedure proc is.of of) (course_there P is.procedure c.start c.way is.begins is.leads)
+    subst (λ q. Contains (courses_of P q) (course c.start c.way))
+    (one_value (slice_get P.procedures c.procedure) is.procedure proc is.of of)
+    (course_there P is.procedure c.start c.way is.begins is.leads)
 
 -- no condition has a property that no procedure has a condition with
-pub none_passes : (P : Program) (Q : Procedure → Course → Type 0) (proc : Procedure) (c : Condition) → IsCondition P c → IsOf P c proc → NoneHas P (λ q. Any (Q q) (courses_of P q)) → Q proc (course c.start c.way) → ⊥
+pub none_passes : (P : Program) (Q : Procedure → Course → Type 0) (proc : Procedure) (c : Condition) → IsCondition P c
+    → IsOf P c proc → NoneHas P (λ q. Any (Q q) (courses_of P q)) → Q proc (course c.start c.way) → ⊥
 none_passes P Q proc c is of none holds =
-    none proc (contained_at P.procedures c.procedure proc of) (any_of (Q proc) (courses_of P proc) (course c.start c.way) (among P proc c is of) holds)
+    none proc (contained_at P.procedures c.procedure proc of)
+    (any_of (Q proc) (courses_of P proc) (course c.start c.way) (among P proc c is of) holds)
 
 -- a condition of an admitted program has few steps
-pub few_steps : (P : Program) (n : ℕ) (r : kept.Condition) → IsAdmitted P → IsNumbered P n (Some r) → length r.steps.items ≤ most_steps
+pub few_steps : (P : Program) (n : ℕ) (r : kept.Condition) → IsAdmitted P → IsNumbered P n (Some r)
+    → length r.steps.items ≤ most_steps
 few_steps P n r admitted (low, there) =
     let c : Condition = condition_of r in
     let is : IsCondition P c = placed P (n - 1) c there in
     let short : length c.way.steps ≤ most_steps = elim (over_or most_steps (length c.way.steps)) [
-      | inl many ↦ absurd (none_passes P (λ proc d. most_steps < length d.way.steps) is.procedure c is is.of admitted.steps many)
+      | inl many ↦ absurd (none_passes P (λ proc d. most_steps < length d.way.steps) is.procedure c is is.of
+          admitted.steps many)
       | inr few ↦ few
     ] in
     subst (λ z. z ≤ most_steps) (length-map r.steps.items step_of) short

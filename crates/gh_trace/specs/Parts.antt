@@ -1,6 +1,6 @@
 -- Parts of heaps that give way to others.
 use Rattle.std.specs.Prelude.{◌≡◌, ◌↔◌, Bool, IsTrue}
-use Rattle.gh_ast.specs.Plain.{Procedure, formula_of}
+use Rattle.gh_ast.specs.Plain.{Procedure, assertion_of}
 use Rattle.gh_assert.specs.Heaps.{Heap}
 use Rattle.gh_assert.specs.Meaning.{Store, Meaning, HasPart, MeetsOneOf}
 use Rattle.gh_assert.specs.Stores.{store_of}
@@ -9,15 +9,15 @@ use Rattle.gh_trace.specs.Traces.{State, Replaced}
 
 -- the heap meets the assertion
 abbrev pub Meets : Part → Heap → Type 0
-Meets p h = Meaning (formula_of p.assertion.now) (store_of p.store.now) h
+Meets p h = Meaning (assertion_of p.assertion.now) (store_of p.store.now) h
 
 -- some part of p's heap meets its assertion
 abbrev pub HasMet : Part → Type 0
-HasMet p = HasPart (formula_of p.assertion.now) (store_of p.store.now) p.heap.now
+HasMet p = HasPart (assertion_of p.assertion.now) (store_of p.store.now) p.heap.now
 
 -- in p's heap a part that meets its assertion gives way to one of which Q holds; the rest stays
 abbrev pub GivesWay : Part → (Heap → Type 0) → Heap → Type 0
-GivesWay p Q k = Replaced (formula_of p.assertion.now) (store_of p.store.now) p.heap.now Q k
+GivesWay p Q k = Replaced (assertion_of p.assertion.now) (store_of p.store.now) p.heap.now Q k
 
 -- the heap stands in k in the place of that part
 abbrev pub StandsInPlace : Part → Heap → Heap → Type 0

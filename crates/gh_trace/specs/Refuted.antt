@@ -3,7 +3,7 @@ use Rattle.std.specs.Prelude.{◌≡◌, ℕ, ◌+◌, List, ◌∷◌, ◌++◌
 use Rattle.gh_ast.specs.Plain.{Program}
 use Rattle.gh_path.specs.Conditions.{Condition, conditions}
 use Rattle.gh_trace.specs.Kept.{drawn_of}
-use Rattle.gh_trace.specs.Replay.{Refutes}
+use Rattle.gh_trace.specs.Replay.{IsDrawnCounterexample}
 use Rattle.gh_trace.specs.Validity.{IsConditionValid}
 use Rattle.gh_trace.specs.declared.state.Trace.{Trace}
 
@@ -15,4 +15,4 @@ pub record ShowsFirst (P : Program) (number : ℕ) (trace : Trace) : Type 0 wher
   pub whole : conditions P ≡ before ++ condition ∷ after
   pub number_is : number ≡ length before + 1
   pub valid : (d : Condition) → Contains before d → IsConditionValid P d
-  pub refutes : Refutes P condition (drawn_of trace)
+  pub refutes : IsDrawnCounterexample P condition (drawn_of trace)

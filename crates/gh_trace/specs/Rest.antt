@@ -14,7 +14,8 @@ abbrev pub states : List Drawn → List State
 states = map (λ y. y.state)
 
 -- the states after x are over the variables, the steps lead to them, and the last one doesn't pass the check
-pub record RefutesAfter (P : Program) (proc : Procedure) (x : State) (ss : List PathStep) (c : Check) (ys : List Drawn) : Type 0 where
+pub record RefutesAfter (P : Program) (proc : Procedure) (x : State) (ss : List PathStep) (c : Check)
+    (ys : List Drawn) : Type 0 where
   pub over : (y : Drawn) → Contains ys y → y.listed ≡ variable_names proc
   pub leads : IsTrace P proc x ss (states ys)
   pub fails : Passes P proc c (last_state x (states ys)) → ⊥

@@ -1,6 +1,6 @@
 -- The variables that a step may change, and the values that names get.
 use Rattle.std.specs.Prelude.{◌≡◌, List, [], ◌∷◌, ℕ, Contains}
-use Rattle.gh_ast.specs.Plain.{part_of}
+use Rattle.gh_ast.specs.Plain.{block_of}
 use Rattle.gh_ast.specs.Programs.{Name, names, SomeAssigns}
 use Rattle.gh_assert.specs.Stores.{store_of}
 use Rattle.gh_assert.specs.declared.store.Entry.{Entry}
@@ -9,7 +9,7 @@ use Rattle.gh_trace.specs.declared.targets.Targets.TheVariants.{Names, Body}
 
 abbrev pub IsTarget : Targets → Name → Type 0
 IsTarget (Names os) n = Contains (names os.now) n
-IsTarget (Body b) n = SomeAssigns (part_of b.now).statements n
+IsTarget (Body b) n = SomeAssigns (block_of b.now).statements n
 
 -- each name that is no target has the same value in both
 abbrev pub KeepsOthers : Targets → List Entry → List Entry → Type 0

@@ -6,7 +6,7 @@ ghost use Rattle.gh_assert.specs.Stores.{listed_names};
 ghost use Rattle.gh_path.specs.Admitted.{most_steps};
 ghost use Rattle.gh_path.specs.Kept.{IsOne, condition_of};
 ghost use Rattle.gh_trace.specs.Kept.{drawn_of, IsFailure};
-ghost use Rattle.gh_trace.specs.Replay.{Refutes};
+ghost use Rattle.gh_trace.specs.Replay.{IsDrawnCounterexample};
 ghost use Rattle.gh_trace.specs.Settings.{HasLoops, variables_here};
 ghost use Rattle.gh_trace.specs.Decisions.{DecidesNext, IsRefutedIn, IsFailureIn};
 
@@ -117,7 +117,7 @@ pub fn replay(
 ) -> Result<(), ReplayError>
     requires one { IsOne (program_of typed.now) condition.now }
     requires few { length condition.now.steps.items ≤ most_steps }
-    ensures refuted { OnOk result (Refutes (program_of typed.now) (condition_of condition.now) (drawn_of trace.now)) }
+    ensures refuted { OnOk result (IsDrawnCounterexample (program_of typed.now) (condition_of condition.now) (drawn_of trace.now)) }
     ensures failed { IfErr result (IsFailure (program_of typed.now) condition.now (drawn_of trace.now)) }
 {
     let Some(procedure) = procedure_at(typed, condition.procedure) else {

@@ -33,7 +33,7 @@ fn stays(alloc: Global, before: &State, after: &State) -> Result<bool, AllocErro
 /// The place is allocated, and the state stays.
 pub fn accesses(alloc: Global, at: &Occ, before: &State, after: &State) -> Result<bool, AllocError>
     requires { ListsAlike before.now after.now }
-    ensures { IfOk result (DecidesTaken (graph.accessed at.now) before.now after.now) }
+    ensures { IfOk result (DecidesTaken (graph.access_step at.now) before.now after.now) }
 {
     let place = value_of(&before.store, at);
     if before.heap.get(place).is_none() {
@@ -52,7 +52,7 @@ pub fn assumes(
     after: &State,
 ) -> Result<bool, AllocError>
     requires { ListsAlike before.now after.now }
-    ensures { IfOk result (DecidesTaken (graph.assume left.now equal right.now) before.now after.now) }
+    ensures { IfOk result (DecidesTaken (graph.assume_step left.now equal right.now) before.now after.now) }
 {
     let Some(left) = expr_value(&before.store, &before.heap, left) else {
         return Ok(false);
@@ -75,7 +75,7 @@ pub fn assigns(
     after: &State,
 ) -> Result<bool, AllocError>
     requires { ListsAlike before.now after.now }
-    ensures { IfOk result (DecidesTaken (graph.assigned target.now expr.now) before.now after.now) }
+    ensures { IfOk result (DecidesTaken (graph.set_step target.now expr.now) before.now after.now) }
 {
     let Some(value) = expr_value(&before.store, &before.heap, expr) else {
         return Ok(false);
@@ -101,7 +101,7 @@ pub fn writes(
     after: &State,
 ) -> Result<bool, AllocError>
     requires { ListsAlike before.now after.now }
-    ensures { IfOk result (DecidesTaken (graph.written at.now expr.now) before.now after.now) }
+    ensures { IfOk result (DecidesTaken (graph.write_step at.now expr.now) before.now after.now) }
 {
     let place = value_of(&before.store, at);
     let Some(value) = expr_value(&before.store, &before.heap, expr) else {
@@ -122,7 +122,7 @@ pub fn writes(
 /// The variable has a place that was not allocated, and a cell is there.
 pub fn makes(alloc: Global, target: &Occ, before: &State, after: &State) -> Result<bool, AllocError>
     requires { ListsAlike before.now after.now }
-    ensures { IfOk result (DecidesTaken (graph.made target.now) before.now after.now) }
+    ensures { IfOk result (DecidesTaken (graph.new_step target.now) before.now after.now) }
 {
     let place = value_of(&after.store, target);
     if place == 0 {
@@ -144,7 +144,7 @@ pub fn makes(alloc: Global, target: &Occ, before: &State, after: &State) -> Resu
 /// The cell at the place is gone.
 pub fn frees(alloc: Global, at: &Occ, before: &State, after: &State) -> Result<bool, AllocError>
     requires { ListsAlike before.now after.now }
-    ensures { IfOk result (DecidesTaken (graph.freed at.now) before.now after.now) }
+    ensures { IfOk result (DecidesTaken (graph.free_step at.now) before.now after.now) }
 {
     let place = value_of(&before.store, at);
     if before.heap.get(place).is_none() {

@@ -1,5 +1,6 @@
 -- The fields of the struct, one field more.
-use Rattle.std.proofs.Common.{◌≡◌, ◌≢◌, ℕ, ◌+◌, ◌<◌, ◌≤◌, ◌↔◌, ◌⊎◌, inl, inr, Bool, true, false, ◌||◌, IsTrue, List, [], ◌∷◌, ◌++◌, length, take, get_or, length-append, refl, sym, ◌∙◌, ap, subst, arith}
+use Rattle.std.proofs.Common.{◌≡◌, ◌≢◌, ℕ, ◌+◌, ◌<◌, ◌≤◌, ◌↔◌, ◌⊎◌, inl, inr, Bool, true, false, ◌||◌, IsTrue, List, []}
+use Rattle.std.proofs.Common.{◌∷◌, ◌++◌, length, take, get_or, length-append, refl, sym, ◌∙◌, ap, subst, arith}
 use Rattle.std.proofs.Math.Seq.{get_or-append_seam, take-length}
 use Rattle.std.proofs.lemmas.Bool.{cases_lt}
 use Rattle.std.proofs.lemmas.List.{take_all, take_more, take-append-le, get_or_append_left}
@@ -10,10 +11,12 @@ use Rattle.gh_ast.specs.Rules.{IsLink, SecondLink, NoLink}
 use Rattle.gh_types.specs.declared.fault.Fault.{Fault}
 use Rattle.gh_types.specs.Checks.{FieldErrors, FieldsErrors, StructErrors}
 use Rattle.gh_types.specs.Faults.{IsFirstOf, IsEarlier}
-use Rattle.gh_types.proofs.FirstLemmas.{any_left, any_right, any_here, any_parts, any_cases, any_none, first_same, first_either}
+use Rattle.gh_types.proofs.FirstLemmas.{any_left, any_right, any_here, any_parts, any_cases, any_none, first_same}
+use Rattle.gh_types.proofs.FirstLemmas.{first_either}
 
 -- the front of a list, one member more
-front_more : {X : Type 0} (xs : List X) (k : ℕ) (x : X) → k < length xs → x ≡ get_or xs k x → take (k + 1) xs ≡ take k xs ++ x ∷ []
+front_more : {X : Type 0} (xs : List X) (k : ℕ) (x : X) → k < length xs → x ≡ get_or xs k x
+    → take (k + 1) xs ≡ take k xs ++ x ∷ []
 front_more xs k x h e = take_more xs k x h ∙ ap (λ y. take k xs ++ y ∷ []) (sym e)
 
 any_last : {X : Type 0} (P : X → Type 0) (xs : List X) (x : X) → Any P (xs ++ x ∷ []) → Any P xs ⊎ P x
@@ -23,7 +26,8 @@ any_last P xs x a = elim (any_parts P xs (x ∷ []) a) [
 ]
 
 -- whether there is a link so far
-linked_step : (fs : List Field) (f : Field) (a b : Bool) → (IsTrue a ↔ Any IsLink fs) → (IsTrue b ↔ IsLink f) → IsTrue (a || b) ↔ Any IsLink (fs ++ f ∷ [])
+linked_step : (fs : List Field) (f : Field) (a b : Bool) → (IsTrue a ↔ Any IsLink fs) → (IsTrue b ↔ IsLink f)
+    → IsTrue (a || b) ↔ Any IsLink (fs ++ f ∷ [])
 linked_step fs f true b p q = (λ _. any_left IsLink fs (f ∷ []) (p.0 refl), λ _. refl)
 linked_step fs f false true p q = (λ _. any_right IsLink fs (f ∷ []) (any_here IsLink f [] (q.0 refl)), λ _. refl)
 linked_step fs f false false p q = (λ e. cc, λ a. elim (any_last IsLink fs f a) [ inl x ↦ p.1 x | inr x ↦ q.1 x ])
@@ -44,7 +48,8 @@ still fs f s h = record {
   span = h.span;
 }
 
-last : (fs : List Field) (f : Field) → f.kind ≡ codes "Node" → (f.name.name ≢ codes "next") ⊎ Any IsLink fs → SecondLink (fs ++ f ∷ []) f.name.span
+last : (fs : List Field) (f : Field) → f.kind ≡ codes "Node" → (f.name.name ≢ codes "next") ⊎ Any IsLink fs
+    → SecondLink (fs ++ f ∷ []) f.name.span
 last fs f k w = record {
   here = f;
   place = length fs;
@@ -65,31 +70,42 @@ cases_of fs f s h = elim (cases_lt h.place (length fs)) [
     element = sym (get_or_append_left fs (f ∷ []) h.here h.place l) ∙ h.element;
     kind = h.kind;
     second = let fits : h.place ≤ length fs = omega arith in
-        subst (λ (xs : List Field). (h.here.name.name ≢ codes "next") ⊎ Any IsLink xs) (take-append-le h.place fs (f ∷ []) fits) h.second;
+        subst (λ (xs : List Field). (h.here.name.name ≢ codes "next") ⊎ Any IsLink xs)
+        (take-append-le h.place fs (f ∷ []) fits) h.second;
     span = h.span;
   })
   | inr l ↦
       let at_end : h.place ≡ length fs = omega (arith, h.within, length-append fs (f ∷ [])) in
-      let same : h.here ≡ f = sym (sym (get_or-append_seam fs f [] h.here) ∙ (ap (λ k. get_or (fs ++ f ∷ []) k h.here) (sym at_end) ∙ h.element)) in
+      let same : h.here ≡ f =
+      sym (sym (get_or-append_seam fs f [] h.here)
+      ∙ (ap (λ k. get_or (fs ++ f ∷ []) k h.here) (sym at_end) ∙ h.element)) in
       let fits : h.place ≤ length fs = omega arith in
-      let front : take h.place (fs ++ f ∷ []) ≡ fs = take-append-le h.place fs (f ∷ []) fits ∙ (ap (λ k. take k fs) at_end ∙ take-length fs) in
+      let front : take h.place (fs ++ f ∷ []) ≡ fs =
+      take-append-le h.place fs (f ∷ []) fits ∙ (ap (λ k. take k fs) at_end ∙ take-length fs) in
       inr (
         sym (ap (λ x. x.name.span) same) ∙ h.span,
         sym (ap (λ x. x.kind) same) ∙ h.kind,
-        subst (λ (x : Field). (x.name.name ≢ codes "next") ⊎ Any IsLink fs) same (subst (λ (xs : List Field). (h.here.name.name ≢ codes "next") ⊎ Any IsLink xs) front h.second),
+        subst (λ (x : Field). (x.name.name ≢ codes "next") ⊎ Any IsLink fs) same
+            (subst (λ (xs : List Field). (h.here.name.name ≢ codes "next") ⊎ Any IsLink xs) front h.second),
       )
 ]
 
 -- the errors of one field more
-forth : (fs : List Field) (f : Field) (a : Bool) → (IsTrue a ↔ Any IsLink fs) → (n : ℕ) (s : Span) → FieldsErrors fs n s ⊎ FieldErrors f a n s → FieldsErrors (fs ++ f ∷ []) n s
+forth : (fs : List Field) (f : Field) (a : Bool) → (IsTrue a ↔ Any IsLink fs) → (n : ℕ) (s : Span)
+    → FieldsErrors fs n s ⊎ FieldErrors f a n s → FieldsErrors (fs ++ f ∷ []) n s
 forth fs f a p n s (inl (inl (e, h))) = inl (e, still fs f s h)
 forth fs f a p n s (inl (inr (e, h))) = inr (e, any_left _ fs (f ∷ []) h)
 forth fs f a p n s (inr (inl (e, o, k, w))) =
     inl (e, subst (SecondLink _) o (last fs f k (elim w [ inl x ↦ inl x | inr x ↦ inr (p.0 x) ])))
 forth fs f a p n s (inr (inr (e, o, k))) =
-    inr (e, any_right (λ x. (x.name.span ≡ s) × (x.kind ≢ codes "Node")) fs (f ∷ []) (any_here (λ x. (x.name.span ≡ s) × (x.kind ≢ codes "Node")) f [] (o, k)))
+    inr (
+      e,
+      any_right (λ x. (x.name.span ≡ s) × (x.kind ≢ codes "Node")) fs (f ∷ [])
+          (any_here (λ x. (x.name.span ≡ s) × (x.kind ≢ codes "Node")) f [] (o, k)),
+    )
 
-back : (fs : List Field) (f : Field) (a : Bool) → (IsTrue a ↔ Any IsLink fs) → (n : ℕ) (s : Span) → FieldsErrors (fs ++ f ∷ []) n s → FieldsErrors fs n s ⊎ FieldErrors f a n s
+back : (fs : List Field) (f : Field) (a : Bool) → (IsTrue a ↔ Any IsLink fs) → (n : ℕ) (s : Span)
+    → FieldsErrors (fs ++ f ∷ []) n s → FieldsErrors fs n s ⊎ FieldErrors f a n s
 back fs f a p n s (inl (e, h)) = elim (cases_of fs f s h) [
   | inl x ↦ inl (inl (e, x))
   | inr (o, k, w) ↦ inr (inl (e, o, k, elim w [ inl x ↦ inl x | inr x ↦ inr (p.1 x) ]))
@@ -99,10 +115,13 @@ back fs f a p n s (inr (e, h)) = elim (any_last (λ x. (x.name.span ≡ s) × (x
   | inr (o, k) ↦ inr (inr (e, o, k))
 ]
 
-pub fields_more : (fs : List Field) (k : ℕ) (f : Field) (linked : Bool) (a b r : Option Fault) → k < length fs → f ≡ get_or fs k f
-    → (IsTrue linked ↔ Any IsLink (take k fs)) → IsEarlier a b r → IsFirstOf (FieldsErrors (take k fs)) a → IsFirstOf (FieldErrors f linked) b → IsFirstOf (FieldsErrors (take (k + 1) fs)) r
+pub fields_more : (fs : List Field) (k : ℕ) (f : Field) (linked : Bool) (a b r : Option Fault) → k < length fs
+    → f ≡ get_or fs k f
+    → (IsTrue linked ↔ Any IsLink (take k fs)) → IsEarlier a b r → IsFirstOf (FieldsErrors (take k fs)) a
+    → IsFirstOf (FieldErrors f linked) b → IsFirstOf (FieldsErrors (take (k + 1) fs)) r
 fields_more fs k f linked a b r h e p i x y =
-    rw (front_more fs k f h e) (first_same _ _ r (forth (take k fs) f linked p) (back (take k fs) f linked p) (first_either _ _ a b r i x y))
+    rw (front_more fs k f h e)
+    (first_same _ _ r (forth (take k fs) f linked p) (back (take k fs) f linked p) (first_either _ _ a b r i x y))
 
 -- the whole struct
 pub struct_whole : (fs : List Field) (close : Span) (k : ℕ) (linked : Bool) (a b r : Option Fault) → length fs ≤ k

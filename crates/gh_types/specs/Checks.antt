@@ -7,7 +7,7 @@ use Rattle.gh_ast.specs.declared.Field.{Field}
 use Rattle.gh_ast.specs.declared.Procedure as kept
 use Rattle.gh_ast.specs.Plain.{Procedure, Program, procedure_of}
 use Rattle.gh_ast.specs.Programs.{IsFirstNamed}
-use Rattle.gh_ast.specs.Occurrences.{Site, mentioned, assigned, called, returned, sites_in_body, in_formula}
+use Rattle.gh_ast.specs.Occurrences.{Site, mentioned, assigned, called, returned, sites_in_body, in_assertion}
 use Rattle.gh_ast.specs.Occurrences.{in_alternatives, locals_of, variables_of}
 use Rattle.gh_ast.specs.Rules.{HasName, RepeatedAt, WrongCount, UnknownProcedure, ReturnInLoop, SecondLink, DataField}
 use Rattle.gh_ast.specs.Rules.{NoLink, NoBody}
@@ -28,7 +28,8 @@ IsMeant ps name found =
 -- the errors of an occurrence: it names no variable, or one that may not stand in this setting
 abbrev pub OccurrenceErrors : Procedure → Setting → Occ → ℕ → Span → Type 0
 OccurrenceErrors q setting o n s =
-    ((n ≡ 1) × (o.span ≡ s) × (HasName (variables_of q) o.name → ⊥)) ⊎ ((n ≡ 9) × (o.span ≡ s) × Forbidden q setting o.name)
+    ((n ≡ 1) × (o.span ≡ s) × (HasName (variables_of q) o.name → ⊥))
+    ⊎ ((n ≡ 9) × (o.span ≡ s) × Forbidden q setting o.name)
 
 -- the errors of names that stand earlier in a list
 abbrev pub RepeatErrors : ℕ → List Occ → ℕ → Span → Type 0
@@ -57,7 +58,8 @@ abbrev pub ProcedureErrors : List Procedure → Procedure → ℕ → Span → T
 ProcedureErrors ps q n s =
     RepeatErrors 2 (variables_of q) n s
     ⊎ (
-    (Any (λ o. OccurrenceErrors q Requires o n s) (in_formula q.needs) ⊎ Any (λ o. OccurrenceErrors q Ensures o n s) (in_alternatives q.gives))
+    (Any (λ o. OccurrenceErrors q Requires o n s) (in_assertion q.needs)
+    ⊎ Any (λ o. OccurrenceErrors q Ensures o n s) (in_alternatives q.gives))
     ⊎ (Any (λ x. SiteErrors ps q x n s) (sites_in_body q.body) ⊎ ((n ≡ 11) × NoBody q s))
     )
 

@@ -22,7 +22,8 @@ abbrev pub IsProceduresLimit : List Procedure → Option Limit → Type 0
 IsProceduresLimit ps found = MatchOption found (length ps ≤ most_procedures) (ProceduresPassed ps)
 
 abbrev pub IsVariablesLimit : List Procedure → Option Limit → Type 0
-IsVariablesLimit ps found = MatchOption found (All (λ q. length (variables_of q) ≤ most_variables) ps) (VariablesPassed ps)
+IsVariablesLimit ps found =
+    MatchOption found (All (λ q. length (variables_of q) ≤ most_variables) ps) (VariablesPassed ps)
 
 abbrev pub IsAtomsLimit : List Procedure → Option Limit → Type 0
 IsAtomsLimit ps found = MatchOption found (All (λ q. All (λ n. n ≤ most_atoms) (atom_counts q)) ps) (AtomsPassed ps)

@@ -72,7 +72,7 @@ impl<'a, 'n> Scope<'a, 'n> {
         ensures { IsFirstOf (SiteErrorsIn self.now
             (called targets.now callee.now arguments.now)) result }
     {
-        match self.meant(callee) {
+        match self.callee_of(callee) {
             Some(procedure) => {
                 let counts = arguments.len() == procedure.parameters.len()
                     && targets.len() == procedure.results.len();
@@ -121,7 +121,7 @@ impl<'a, 'n> Scope<'a, 'n> {
                 taken,
                 otherwise,
             } => {
-                let first = self.in_test(Setting::Inside, test);
+                let first = self.in_cond(Setting::Inside, test);
                 let second = self.in_statements(alloc, in_loop, taken.statements.as_slice())?;
                 let third = self.in_statements(alloc, in_loop, otherwise.statements.as_slice())?;
                 Ok(earlier(earlier(first, second), third))
@@ -132,7 +132,7 @@ impl<'a, 'n> Scope<'a, 'n> {
                 body,
                 ..
             } => {
-                let first = self.in_test(Setting::Inside, test);
+                let first = self.in_cond(Setting::Inside, test);
                 let second = self.in_assertion(Setting::Inside, invariant);
                 let third = self.in_statements(alloc, true, body.statements.as_slice())?;
                 Ok(earlier(earlier(first, second), third))

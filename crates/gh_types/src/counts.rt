@@ -1,8 +1,8 @@
 // How many atoms and variables there are.
 
 ghost use Rattle.std.specs.Prelude.{◌≡◌, ◌-◌, length};
-ghost use Rattle.gh_ast.specs.Plain.{formula_of, formulas_view, procedure_of, test_of, tests_view};
-ghost use Rattle.gh_ast.specs.Limits.{all_atoms, atoms, reported, test_atoms, tests_atoms};
+ghost use Rattle.gh_ast.specs.Plain.{assertion_of, assertions_view, procedure_of, cond_of, conds_view};
+ghost use Rattle.gh_ast.specs.Limits.{all_atoms, atoms, reported, cond_atoms, conds_atoms};
 ghost use Rattle.gh_ast.specs.Occurrences.{variables_of};
 
 use crate::names::locals;
@@ -40,7 +40,7 @@ pub fn count_variables(procedure: &Procedure) -> u32
 /// How many atoms a test has, as it is reported.
 #[cycle(test_count)]
 fn count_in_test(test: &Cond) -> u32
-    ensures { result ≡ reported (test_atoms (test_of test.now)) }
+    ensures { result ≡ reported (cond_atoms (cond_of test.now)) }
 {
     match test {
         Cond::Compare { .. } => 1,
@@ -53,7 +53,7 @@ fn count_in_test(test: &Cond) -> u32
 /// How many atoms some tests have together.
 #[cycle(test_count)]
 fn count_in_tests(tests: &[Cond]) -> u32
-    ensures { result ≡ reported (tests_atoms (tests_view tests.now)) }
+    ensures { result ≡ reported (conds_atoms (conds_view tests.now)) }
 {
     let mut sum = 0u32;
     for test in tests {
@@ -65,7 +65,7 @@ fn count_in_tests(tests: &[Cond]) -> u32
 /// How many atoms an assertion has, as it is reported.
 #[cycle(atom_count)]
 pub fn count_atoms(assertion: &Assertion) -> u32
-    ensures { result ≡ reported (atoms (formula_of assertion.now)) }
+    ensures { result ≡ reported (atoms (assertion_of assertion.now)) }
 {
     match assertion {
         Assertion::Star(members) => count_all_atoms(members.as_slice()),
@@ -84,7 +84,7 @@ pub fn count_atoms(assertion: &Assertion) -> u32
 /// How many atoms some assertions have together.
 #[cycle(atom_count)]
 pub fn count_all_atoms(assertions: &[Assertion]) -> u32
-    ensures { result ≡ reported (all_atoms (formulas_view assertions.now)) }
+    ensures { result ≡ reported (all_atoms (assertions_view assertions.now)) }
 {
     let mut sum = 0u32;
     for assertion in assertions {

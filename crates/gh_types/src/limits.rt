@@ -1,7 +1,7 @@
 // The limits on a text.
 
 ghost use Rattle.std.specs.Prelude.{◌≡◌, ◌<◌, ◌≤◌, [], ◌∷◌, map, sum, MatchOption};
-ghost use Rattle.gh_ast.specs.Plain.{formula_of, procedure_of, program_of, statement_of, statements_view};
+ghost use Rattle.gh_ast.specs.Plain.{assertion_of, procedure_of, program_of, statement_of, statements_view};
 ghost use Rattle.gh_ast.specs.Limits.{atom_counts, atoms, most_atoms, invariants_in, all_invariants_in};
 ghost use Rattle.gh_ast.specs.Limits.{invariants_in_body, IsLimit, KeepsLimits};
 ghost use Rattle.gh_types.specs.LimitChecks.{IsProceduresLimit, IsVariablesLimit, IsAtomsLimit, FindsMany};
@@ -23,14 +23,14 @@ fn over_limit(count: u32) -> Option<u32>
 
 /// The number of an assertion's atoms, where they are too many.
 fn long(assertion: &Assertion) -> Option<u32>
-    ensures { FindsMany (atoms (formula_of assertion.now) ∷ []) result }
+    ensures { FindsMany (atoms (assertion_of assertion.now) ∷ []) result }
 {
     over_limit(count_atoms(assertion))
 }
 
 /// The number of the atoms of all alternatives together, where they are too many.
 fn long_together(alternatives: &[Assertion]) -> Option<u32>
-    ensures { FindsMany (sum (map atoms (map formula_of alternatives.now)) ∷ []) result }
+    ensures { FindsMany (sum (map atoms (map assertion_of alternatives.now)) ∷ []) result }
 {
     over_limit(count_all_atoms(alternatives))
 }

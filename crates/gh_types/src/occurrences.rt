@@ -1,7 +1,8 @@
 // The occurrences of variables in expressions, tests and assertions.
 
-ghost use Rattle.gh_ast.specs.Plain.{test_of, tests_view, formula_of, formulas_view};
-ghost use Rattle.gh_ast.specs.Occurrences.{in_operand, in_expr, in_exprs, in_test, in_tests, in_formula, in_formulas};
+ghost use Rattle.gh_ast.specs.Plain.{cond_of, conds_view, assertion_of, assertions_view};
+ghost use Rattle.gh_ast.specs.Occurrences.{in_operand, in_expr, in_exprs, in_cond, in_conds, in_assertion};
+ghost use Rattle.gh_ast.specs.Occurrences.{in_assertions};
 ghost use Rattle.gh_types.specs.Scopes.{OccurrenceErrorsIn};
 ghost use Rattle.gh_types.specs.Faults.{IsFirstIn};
 
@@ -43,27 +44,27 @@ impl<'a, 'n> Scope<'a, 'n> {
 
     /// The first error in a test.
     #[cycle(any_test)]
-    pub fn in_test(&self, setting: Setting, test: &Cond) -> Option<Fault>
-        ensures { IsFirstIn (OccurrenceErrorsIn self.now setting) (in_test (test_of test.now)) result }
+    pub fn in_cond(&self, setting: Setting, test: &Cond) -> Option<Fault>
+        ensures { IsFirstIn (OccurrenceErrorsIn self.now setting) (in_cond (cond_of test.now)) result }
     {
         match test {
             Cond::Compare { left, right, .. } => {
                 earlier(self.in_expr(setting, left), self.in_expr(setting, right))
             }
-            Cond::Not(inner) => self.in_test(setting, inner),
-            Cond::And(members) => self.in_tests(setting, members.as_slice()),
-            Cond::Or(members) => self.in_tests(setting, members.as_slice()),
+            Cond::Not(inner) => self.in_cond(setting, inner),
+            Cond::And(members) => self.in_conds(setting, members.as_slice()),
+            Cond::Or(members) => self.in_conds(setting, members.as_slice()),
         }
     }
 
     /// The first error in some tests.
     #[cycle(any_test)]
-    fn in_tests(&self, setting: Setting, tests: &[Cond]) -> Option<Fault>
-        ensures { IsFirstIn (OccurrenceErrorsIn self.now setting) (in_tests (tests_view tests.now)) result }
+    fn in_conds(&self, setting: Setting, tests: &[Cond]) -> Option<Fault>
+        ensures { IsFirstIn (OccurrenceErrorsIn self.now setting) (in_conds (conds_view tests.now)) result }
     {
         let mut first = None;
         for test in tests {
-            first = earlier(first, self.in_test(setting, test));
+            first = earlier(first, self.in_cond(setting, test));
         }
         first
     }
@@ -71,7 +72,7 @@ impl<'a, 'n> Scope<'a, 'n> {
     /// The first error in an assertion.
     #[cycle(assertion)]
     pub fn in_assertion(&self, setting: Setting, assertion: &Assertion) -> Option<Fault>
-        ensures { IsFirstIn (OccurrenceErrorsIn self.now setting) (in_formula (formula_of assertion.now)) result }
+        ensures { IsFirstIn (OccurrenceErrorsIn self.now setting) (in_assertion (assertion_of assertion.now)) result }
     {
         match assertion {
             Assertion::Emp => None,
@@ -93,7 +94,7 @@ impl<'a, 'n> Scope<'a, 'n> {
             }
             Assertion::Star(members) => self.in_assertions(setting, members.as_slice()),
             Assertion::Cases { test, yes, no } => {
-                let first = earlier(self.in_test(setting, test), self.in_assertion(setting, yes));
+                let first = earlier(self.in_cond(setting, test), self.in_assertion(setting, yes));
                 earlier(first, self.in_assertion(setting, no))
             }
         }
@@ -102,7 +103,7 @@ impl<'a, 'n> Scope<'a, 'n> {
     /// The first error in some assertions.
     #[cycle(assertion)]
     pub fn in_assertions(&self, setting: Setting, assertions: &[Assertion]) -> Option<Fault>
-        ensures { IsFirstIn (OccurrenceErrorsIn self.now setting) (in_formulas (formulas_view assertions.now)) result }
+        ensures { IsFirstIn (OccurrenceErrorsIn self.now setting) (in_assertions (assertions_view assertions.now)) result }
     {
         let mut first = None;
         for assertion in assertions {

@@ -88,7 +88,7 @@ impl<'a, 'n> Scope<'a, 'n> {
     }
 
     /// The procedure that a name means.
-    pub fn meant(&self, name: &Occ) -> Option<&'a Procedure>
+    pub fn callee_of(&self, name: &Occ) -> Option<&'a Procedure>
         ensures { IsMeant (map procedure_of self.now.procedures.now) name.now.name result }
     {
         let Some(place) = self.firsts.place(name.name.bytes()) else {

@@ -4,21 +4,21 @@
 mod drawings;
 mod picture;
 mod progress;
+mod why;
 mod words;
 
 use anyhow::Error;
-use drawings::drawing_in;
 use gh_ast::typed::Typed;
 use gh_lens::front::{FrontError, admitted, read_program, refusal};
 use gh_lens::overview::overview_of;
 use gh_lens::progress::Silent;
-use gh_lens::story::{Explained, why};
 use progress::Counter;
 use std::alloc::{AllocError, Global};
 use std::io::{self, Write};
 use std::process::ExitCode;
 use std::rt::{Env, Files};
 use std::{env, fs};
+use why::explain;
 use words::{Asked, asked_of, command};
 
 // The status where a condition is refuted, and that where something can't be read.
@@ -68,37 +68,6 @@ fn all<R: Print + Eprint + Alloc<A = Global>>(
     Ok(if found.refuted == 0 { 0 } else { REFUTED })
 }
 
-// `lens why`.
-fn explain<R: Print + Eprint + Files + Alloc<A = Global>>(
-    rt: &R,
-    file: &str,
-    typed: &Typed,
-    drawing: &str,
-) -> Result<u8, Error> {
-    let conditions = match admitted(rt.alloc(), typed) {
-        Ok(conditions) => conditions,
-        Err(error) => return refused(rt, file, &error),
-    };
-    let Some(read) = drawing_in(rt, typed, &conditions, drawing)? else {
-        eprintln!(rt; "{drawing}: no drawing of a condition")?;
-        return Ok(REFUSED);
-    };
-    match why(rt.alloc(), typed, &conditions, &read)? {
-        Explained::Told(story) => {
-            io::writer(rt).write_all(story.bytes())?;
-            Ok(REFUTED)
-        }
-        Explained::Fails { number } => {
-            eprintln!(rt; "{drawing}: no counterexample: step {number} fails")?;
-            Ok(REFUSED)
-        }
-        Explained::Unnumbered => {
-            eprintln!(rt; "{drawing}: no such condition")?;
-            Ok(REFUSED)
-        }
-    }
-}
-
 // Does what is asked.
 fn answer<R: Print + Eprint + Files + Alloc<A = Global>>(
     rt: &R,
@@ -112,8 +81,8 @@ fn answer<R: Print + Eprint + Files + Alloc<A = Global>>(
     };
     match asked {
         Asked::All { is_told, .. } => all(rt, file, &typed, is_told),
-        Asked::Why { drawing, .. } => explain(rt, file, &typed, drawing),
-        Asked::Picture { drawing, .. } => picture::picture(rt, file, drawing, &typed),
+        Asked::Why { choice, .. } => explain(rt, file, &typed, choice),
+        Asked::Picture { choice, .. } => picture::picture(rt, file, &typed, choice),
     }
 }
 

@@ -1,23 +1,24 @@
 // The command line.
 
+use clap::builder::ValueParser;
 use clap::{Arg, ArgAction, ArgMatches, Command};
 use std::alloc::{AllocError, Global};
+
+/// Which counterexample is told or drawn: that of the condition that an overview names first, that of the condition of
+/// a number, or that of a file.
+#[derive(Clone, Copy)]
+pub(crate) enum Choice<'a> {
+    First,
+    Number(u32),
+    Drawing(&'a str),
+}
 
 /// What the words ask for.
 #[derive(Clone, Copy)]
 pub(crate) enum Asked<'a> {
-    All {
-        file: &'a str,
-        is_told: bool,
-    },
-    Why {
-        file: &'a str,
-        drawing: &'a str,
-    },
-    Picture {
-        file: &'a str,
-        drawing: Option<&'a str>,
-    },
+    All { file: &'a str, is_told: bool },
+    Why { file: &'a str, choice: Choice<'a> },
+    Picture { file: &'a str, choice: Choice<'a> },
 }
 
 impl<'a> Asked<'a> {
@@ -52,27 +53,37 @@ fn all_command<'a>(alloc: Global) -> Result<Command<'a>, AllocError> {
         .arg(progress)
 }
 
-fn why_command<'a>(alloc: Global) -> Result<Command<'a>, AllocError> {
-    let command = Command::new(alloc, "why").about("Tell a counterexample step by step");
-    command
+// A command that tells or draws the counterexample of a choice.
+fn choosing<'a>(alloc: Global, name: &'a str, about: &'a str) -> Result<Command<'a>, AllocError> {
+    let drawing = Arg::new(alloc, "drawing")
+        .long("drawing")
+        .value_name("DRAWING")
+        .action(ArgAction::Set)
+        .help("Take the counterexample from what `grass check` or `grass smallest` answered");
+    let condition = condition_operand(alloc)
+        .required(false)
+        .conflicts_with("drawing")?;
+    Command::new(alloc, name)
+        .about(about)
         .arg(operand(alloc, "FILE", "The text of the program"))?
-        .arg(operand(
-            alloc,
-            "DRAWING",
-            "What `grass check` or `grass smallest` answered",
-        ))
+        .arg(condition)?
+        .arg(drawing)
+}
+
+fn why_command<'a>(alloc: Global) -> Result<Command<'a>, AllocError> {
+    let about = "Tell the smallest counterexample of a condition step by step";
+    choosing(alloc, "why", about)
 }
 
 fn picture_command<'a>(alloc: Global) -> Result<Command<'a>, AllocError> {
-    let drawing = Arg::new(alloc, "DRAWING").action(ArgAction::Set).help(
-        "A drawing, as `grass check` writes it; else the smallest counterexample is drawn",
-    );
-    let command = Command::new(alloc, "picture").about(
-        "Write a counterexample as one SVG: a row for each state, from top to bottom",
-    );
-    command
-        .arg(operand(alloc, "FILE", "The text of the program"))?
-        .arg(drawing)
+    let about = "Draw the smallest counterexample of a condition as one SVG, a row for each state";
+    choosing(alloc, "picture", about)
+}
+
+// The number of a condition.
+fn condition_operand<'a>(alloc: Global) -> Arg<'a> {
+    let operand = operand(alloc, "CONDITION", "The number of the condition");
+    operand.value_parser(ValueParser::Unsigned(1, 4_294_967_295))
 }
 
 /// The command line with its help texts.
@@ -86,6 +97,17 @@ pub(crate) fn command<'a>(alloc: Global) -> Result<Command<'a>, AllocError> {
         .subcommand(picture_command(alloc)?)
 }
 
+// Which counterexample the words of a command ask for.
+fn choice_of<'a>(matches: &ArgMatches<'a>) -> Choice<'a> {
+    if let Some(drawing) = matches.get_str("drawing") {
+        return Choice::Drawing(drawing);
+    }
+    match matches.get_one::<u32>("CONDITION") {
+        Some(number) => Choice::Number(number),
+        None => Choice::First,
+    }
+}
+
 /// What the words ask for, if they are whole.
 pub(crate) fn asked_of<'a>(matches: &ArgMatches<'a>) -> Option<Asked<'a>> {
     let (name, inner) = matches.subcommand()?;
@@ -93,11 +115,11 @@ pub(crate) fn asked_of<'a>(matches: &ArgMatches<'a>) -> Option<Asked<'a>> {
     match name {
         "why" => Some(Asked::Why {
             file,
-            drawing: inner.get_str("DRAWING")?,
+            choice: choice_of(inner),
         }),
         "picture" => Some(Asked::Picture {
             file,
-            drawing: inner.get_str("DRAWING"),
+            choice: choice_of(inner),
         }),
         _ => Some(Asked::All {
             file,

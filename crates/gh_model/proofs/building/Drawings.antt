@@ -8,8 +8,8 @@ use Rattle.gh_path.specs.Graphs.{meets_at}
 use Rattle.gh_path.specs.Conditions.{Condition, IsOf}
 use Rattle.gh_trace.specs.Traces.{State, Counterexample}
 use Rattle.gh_trace.specs.Validity as whole
-use Rattle.gh_trace.specs.Replay.{Drawn, Refutes}
-use Rattle.gh_model.specs.TraceLaws.{IsCounterexample}
+use Rattle.gh_trace.specs.Replay.{Drawn, IsDrawnCounterexample}
+use Rattle.gh_trace.specs.Validity.{IsCounterexample}
 use Rattle.gh_model.specs.BuiltTraces.{built_trace}
 use Rattle.gh_model.specs.KeptTraces.{drawn_over, BuiltIsCounterexample}
 use Rattle.gh_model.proofs.locality.Traces.{locality_holds}
@@ -27,7 +27,8 @@ all_over xs (y ∷ ys) d there = elim (member_cases (record { listed = xs; state
 ]
 
 -- a counterexample that is drawn over the variables of the condition's procedure refutes the condition
-pub drawn_refutes : (P : Program) (proc : Procedure) (c : Condition) (ys : List State) → IsOf P c proc → whole.AreCounterexample P c ys → Refutes P c (drawn_over (variable_names proc) ys)
+pub drawn_refutes : (P : Program) (proc : Procedure) (c : Condition) (ys : List State) → IsOf P c proc
+    → whole.AreCounterexample P c ys → IsDrawnCounterexample P c (drawn_over (variable_names proc) ys)
 drawn_refutes P proc c [] of R = absurd R
 drawn_refutes P proc c (y ∷ ys) of R =
     let (q, of', C) = R in
@@ -41,8 +42,10 @@ drawn_refutes P proc c (y ∷ ys) of R =
       others = drawn_over xs ys;
       states = refl;
       over = all_over xs (y ∷ ys);
-      counterexample = subst (Counterexample P proc (meets_at proc c.start) c.way.steps c.way.check y) (sym (states_of xs ys)) C';
+      counterexample =
+          subst (Counterexample P proc (meets_at proc c.start) c.way.steps c.way.check y) (sym (states_of xs ys)) C';
     }
 
 pub built_is_counterexample : BuiltIsCounterexample
-built_is_counterexample P proc c m typed is of I = drawn_refutes P proc c (built_trace P proc c m) of (locality_holds P proc c m typed is of I)
+built_is_counterexample P proc c m typed is of I =
+    drawn_refutes P proc c (built_trace P proc c m) of (locality_holds P proc c m typed is of I)

@@ -2,7 +2,8 @@
 use Rattle.std.specs.Prelude.{◌≡◌, ◌↔◌, ℕ, List, Bool, true, false, Some, MatchBool, Contains}
 use Rattle.std.specs.FinMap.{get}
 use Rattle.std.proofs.Common.{◌∙◌, ap, subst, inl, inr}
-use Rattle.gh_ast.specs.Plain.{Formula, empty, comparison, points_to, cell, segment, star, cases, Formulas, no_formulas, formula_first}
+use Rattle.gh_ast.specs.Plain.{Assertion, empty, comparison, points_to, cell, segment, star, cases, Assertions}
+use Rattle.gh_ast.specs.Plain.{no_assertions, assertion_first}
 use Rattle.gh_assert.specs.Heaps.{Heap}
 use Rattle.gh_assert.specs.Meaning.{Store, value, truth}
 use Rattle.gh_assert.specs.Walks.{succ}
@@ -33,25 +34,32 @@ hop_is_content V h x v named = (to, from)
     from e = subst (Hop V h x) (succ_at h x v e) ((hop_rows V h).content x (v, e) named)
 
 mutual
-  same_inside : (f : Formula) (s : Store) (V : List ℕ) (h : Heap) (m : HeapStructure) → Represents V h m → HasNames f s h V → (z : ℕ) → Contains V z → IsInside f s m z ↔ Covers f s h z
+  same_inside : (f : Assertion) (s : Store) (V : List ℕ) (h : Heap) (m : HeapStructure) → Represents V h m
+      → HasNames f s h V → (z : ℕ) → Contains V z → IsInside f s m z ↔ Covers f s h z
   same_inside empty s V h m T n z cz = (λ u. u, λ u. u)
   same_inside (comparison l e r) s V h m T n z cz = (λ u. u, λ u. u)
   same_inside (points_to at to) s V h m T n z cz = (λ u. u, λ u. u)
   same_inside (cell at) s V h m T n z cz = (λ u. u, λ u. u)
-  same_inside (segment x y) s V h m T n z cz = let both = T.between (value s x) z (value s y) n.0 cz n.1 in (λ u. (both.0 u.0, u.1), λ u. (both.1 u.0, u.1))
+  same_inside (segment x y) s V h m T n z cz = let both = T.between (value s x) z (value s y) n.0 cz n.1 in
+      (λ u. (both.0 u.0, u.1), λ u. (both.1 u.0, u.1))
   same_inside (star fs) s V h m T n z cz = same_inside_any fs s V h m T n z cz
   same_inside (cases t f g) s V h m T n z cz =
-      same_choice (truth s t) (IsInside f s m z) (IsInside g s m z) (Covers f s h z) (Covers g s h z) (same_inside f s V h m T n.0 z cz) (same_inside g s V h m T n.1 z cz)
+      same_choice (truth s t) (IsInside f s m z) (IsInside g s m z) (Covers f s h z) (Covers g s h z)
+      (same_inside f s V h m T n.0 z cz) (same_inside g s V h m T n.1 z cz)
 
-  same_inside_any : (fs : Formulas) (s : Store) (V : List ℕ) (h : Heap) (m : HeapStructure) → Represents V h m → HaveNames fs s h V → (z : ℕ) → Contains V z → IsInsideAny fs s m z ↔ CoversAny fs s h z
-  same_inside_any no_formulas s V h m T n z cz = (λ u. u, λ u. u)
-  same_inside_any (formula_first f fs) s V h m T n z cz =
+  same_inside_any : (fs : Assertions) (s : Store) (V : List ℕ) (h : Heap) (m : HeapStructure) → Represents V h m
+      → HaveNames fs s h V → (z : ℕ) → Contains V z → IsInsideAny fs s m z ↔ CoversAny fs s h z
+  same_inside_any no_assertions s V h m T n z cz = (λ u. u, λ u. u)
+  same_inside_any (assertion_first f fs) s V h m T n z cz =
       let one = same_inside f s V h m T n.0 z cz in
-      let all = same_inside_any fs s V h m T n.1 z cz in
-      (λ u. elim u [ inl a ↦ inl (one.0 a) | inr b ↦ inr (all.0 b) ], λ u. elim u [ inl a ↦ inl (one.1 a) | inr b ↦ inr (all.1 b) ])
+      let all = same_inside_any fs s V h m T n.1 z cz in (
+        λ u. elim u [ inl a ↦ inl (one.0 a) | inr b ↦ inr (all.0 b) ],
+        λ u. elim u [ inl a ↦ inl (one.1 a) | inr b ↦ inr (all.1 b) ],
+      )
 
 mutual
-  same_fits : (f : Formula) (s : Store) (V : List ℕ) (h : Heap) (m : HeapStructure) → Represents V h m → HasNames f s h V → Fits f s m V ↔ Reads f s h V
+  same_fits : (f : Assertion) (s : Store) (V : List ℕ) (h : Heap) (m : HeapStructure) → Represents V h m
+      → HasNames f s h V → Fits f s m V ↔ Reads f s h V
   same_fits empty s V h m T n = (λ u. u, λ u. u)
   same_fits (comparison l e r) s V h m T n = (λ u. u, λ u. u)
   same_fits (points_to at to) s V h m T n =
@@ -62,25 +70,49 @@ mutual
   same_fits (segment x y) s V h m T n = T.between (value s x) (value s y) (value s y) n.0 n.1 n.1
   same_fits (star fs) s V h m T n = same_fit_all fs s V h m T n
   same_fits (cases t f g) s V h m T n =
-      same_choice (truth s t) (Fits f s m V) (Fits g s m V) (Reads f s h V) (Reads g s h V) (same_fits f s V h m T n.0) (same_fits g s V h m T n.1)
+      same_choice (truth s t) (Fits f s m V) (Fits g s m V) (Reads f s h V) (Reads g s h V) (same_fits f s V h m T n.0)
+      (same_fits g s V h m T n.1)
 
-  same_fit_all : (fs : Formulas) (s : Store) (V : List ℕ) (h : Heap) (m : HeapStructure) → Represents V h m → HaveNames fs s h V → FitAll fs s m V ↔ ReadsAll fs s h V
-  same_fit_all no_formulas s V h m T n = (λ u. u, λ u. u)
-  same_fit_all (formula_first f fs) s V h m T n =
+  same_fit_all : (fs : Assertions) (s : Store) (V : List ℕ) (h : Heap) (m : HeapStructure) → Represents V h m
+      → HaveNames fs s h V → FitAll fs s m V ↔ ReadsAll fs s h V
+  same_fit_all no_assertions s V h m T n = (λ u. u, λ u. u)
+  same_fit_all (assertion_first f fs) s V h m T n =
       let one = same_fits f s V h m T n.0 in
       let all = same_fit_all fs s V h m T n.1 in (
-        λ u. (one.0 u.0, all.0 u.1, λ z cz a b. u.2 z cz ((same_inside f s V h m T n.0 z cz).1 a) ((same_inside_any fs s V h m T n.1 z cz).1 b)),
-        λ u. (one.1 u.0, all.1 u.1, λ z cz a b. u.2 z cz ((same_inside f s V h m T n.0 z cz).0 a) ((same_inside_any fs s V h m T n.1 z cz).0 b)),
+        λ u. (
+          one.0 u.0,
+          all.0 u.1,
+          λ z cz a b. u.2 z cz ((same_inside f s V h m T n.0 z cz).1 a)
+              ((same_inside_any fs s V h m T n.1 z cz).1 b),
+        ),
+        λ u. (
+          one.1 u.0,
+          all.1 u.1,
+          λ z cz a b. u.2 z cz ((same_inside f s V h m T n.0 z cz).0 a)
+              ((same_inside_any fs s V h m T n.1 z cz).0 b),
+        ),
       )
 
 pub assertions_agree : AssertionsAgree
 assertions_agree V h m s f null own T n = record {
   part = (λ u. R.part.0 (fit.0 u), λ u. fit.1 (R.part.1 u));
-  footprint = λ a p e z cz. let real = R.footprint a p e z in (λ u. (inside z cz).1 (real.0 u), λ u. real.1 ((inside z cz).0 u));
+  footprint = λ a p e z cz. let real = R.footprint a p e z in
+      (λ u. (inside z cz).1 (real.0 u), λ u. real.1 ((inside z cz).0 u));
   whole = (
-    λ u. R.whole.1 (fit.0 u.0, λ z cz. (λ a. (inside z cz).0 ((u.1 z cz).0 ((T.alloc z cz).1 a)), λ c. (T.alloc z cz).0 ((u.1 z cz).1 ((inside z cz).1 c)))),
-    λ e. let r = R.whole.0 e in
-        (fit.1 r.0, λ z cz. (λ a. (inside z cz).1 ((r.1 z cz).0 ((T.alloc z cz).0 a)), λ c. (T.alloc z cz).1 ((r.1 z cz).1 ((inside z cz).0 c)))),
+    λ u. R.whole.1 (
+      fit.0 u.0,
+      λ z cz. (
+        λ a. (inside z cz).0 ((u.1 z cz).0 ((T.alloc z cz).1 a)),
+        λ c. (T.alloc z cz).0 ((u.1 z cz).1 ((inside z cz).1 c)),
+      ),
+    ),
+    λ e. let r = R.whole.0 e in (
+      fit.1 r.0,
+      λ z cz. (
+        λ a. (inside z cz).1 ((r.1 z cz).0 ((T.alloc z cz).0 a)),
+        λ c. (T.alloc z cz).1 ((r.1 z cz).1 ((inside z cz).0 c)),
+      ),
+    ),
   );
 }
   where

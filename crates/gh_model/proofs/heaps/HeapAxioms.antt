@@ -12,7 +12,9 @@ use Rattle.gh_model.specs.Structures.{HeapStructure, IsOrdered, IsLinked}
 use Rattle.gh_model.specs.Laws.{HeapsAreModels, RowsAreTheOrder, LinkRowsOf, KeepsCells, AreLinks, RowsAreTheLinks}
 
 -- whatever else is said of its hops and cells
-pub is_ordered : (V : List ℕ) (h : Heap) (m : HeapStructure) → ((x y z : ℕ) → Contains V x → Contains V y → Contains V z → Decides (m.between x y z) (Between h x y z)) → IsOrdered (Contains V) (λ x y. x ≡ y) m
+pub is_ordered : (V : List ℕ) (h : Heap) (m : HeapStructure)
+    → ((x y z : ℕ) → Contains V x → Contains V y → Contains V z → Decides (m.between x y z) (Between h x y z))
+    → IsOrdered (Contains V) (λ x y. x ≡ y) m
 is_ordered V h m T = record {
   row_1 = λ x cx. (T x x x cx cx cx).1 (R.row_1 x);
   row_2 = λ x y cx cy b. R.row_2 x y ((T x y x cx cy cx).0 b);
@@ -23,10 +25,18 @@ is_ordered V h m T = record {
   row_4 = λ x y z cx cy cz b. (T x y y cx cy cy).1 (R.row_4 x y z ((T x y z cx cy cz).0 b));
   row_5 = λ x y z cx cy cz b. (T y z z cy cz cz).1 (R.row_5 x y z ((T x y z cx cy cz).0 b));
   row_6 = λ x y z cx cy cz b c. (T x z z cx cz cz).1 (R.row_6 x y z ((T x y y cx cy cy).0 b) ((T y z z cy cz cz).0 c));
-  row_7 = λ x y u z cx cy cu cz b c. (T x y u cx cy cu).1 (R.row_7 x y u z ((T x y z cx cy cz).0 b) ((T y u z cy cu cz).0 c));
-  row_8 = λ x y u z cx cy cu cz b c. (T x u z cx cu cz).1 (R.row_8 x y u z ((T x y z cx cy cz).0 b) ((T y u z cy cu cz).0 c));
-  row_9 = λ x y u z cx cy cu cz b c. (T x u z cx cu cz).1 (R.row_9 x y u z ((T x y z cx cy cz).0 b) ((T x u y cx cu cy).0 c));
-  row_10 = λ x y u z cx cy cu cz b c. (T u y z cu cy cz).1 (R.row_10 x y u z ((T x y z cx cy cz).0 b) ((T x u y cx cu cy).0 c));
+  row_7 =
+      λ x y u z cx cy cu cz b c. (T x y u cx cy cu).1
+      (R.row_7 x y u z ((T x y z cx cy cz).0 b) ((T y u z cy cu cz).0 c));
+  row_8 =
+      λ x y u z cx cy cu cz b c. (T x u z cx cu cz).1
+      (R.row_8 x y u z ((T x y z cx cy cz).0 b) ((T y u z cy cu cz).0 c));
+  row_9 =
+      λ x y u z cx cy cu cz b c. (T x u z cx cu cz).1
+      (R.row_9 x y u z ((T x y z cx cy cz).0 b) ((T x u y cx cu cy).0 c));
+  row_10 =
+      λ x y u z cx cy cu cz b c. (T u y z cu cy cz).1
+      (R.row_10 x y u z ((T x y z cx cy cz).0 b) ((T x u y cx cu cy).0 c));
 }
   where
     R : Rows (Between h)
@@ -41,11 +51,14 @@ heaps_are_models V h m c0 null own T = record {
       | inl back ↦ inl back
       | inr on ↦ inr ((T.between x v w cx cv cw).1 on)
     ];
-    row_13 = λ x y cx cy b. elim (unallocated_stay h x y ((T.between x y y cx cy cy).0 b)) [ inl a ↦ inl ((T.alloc x cx).1 a) | inr e ↦ inr e ];
+    row_13 =
+        λ x y cx cy b. elim (unallocated_stay h x y ((T.between x y y cx cy cy).0 b))
+        [ inl a ↦ inl ((T.alloc x cx).1 a) | inr e ↦ inr e ];
     row_14 = λ x w cx cw a b. H.row_14 x w cw ((T.hop x x cx cx).0 a) ((T.between x w w cx cw cw).0 b);
     row_15 = λ x v cx cv a. (T.alloc x cx).1 (H.row_15 x v ((T.hop x v cx cv).0 a));
     null = λ a. let there = ((T.alloc 0 c0).0 a).1 in absurd cc;
-    hops = λ x cx a. let next = hops_exist V h x null own cx ((T.alloc x cx).0 a) in (next.0, next.1.named, (T.hop x next.0 cx next.1.named).1 next.1);
+    hops = λ x cx a. let next = hops_exist V h x null own cx ((T.alloc x cx).0 a) in
+        (next.0, next.1.named, (T.hop x next.0 cx next.1.named).1 next.1);
   };
 }
   where
@@ -83,7 +96,8 @@ to_rows m O = record {
 pub rows_are_the_order : RowsAreTheOrder
 rows_are_the_order m = (to_order m, to_rows m)
 
-to_links : (N : ℕ → Type 0) (E : ℕ → ℕ → Type 0) (m : HeapStructure) → LinkRowsOf N E m × KeepsCells N E m → IsLinked N E m
+to_links : (N : ℕ → Type 0) (E : ℕ → ℕ → Type 0) (m : HeapStructure) → LinkRowsOf N E m × KeepsCells N E m
+    → IsLinked N E m
 to_links N E m K = record {
   row_11 = λ x v nx nv a. K.0.row_11 x v (nx, nv, a);
   row_12 = λ x v w nx nv nw a b. K.0.row_12 x v w nw (nx, nv, a) b;
@@ -94,7 +108,8 @@ to_links N E m K = record {
   hops = K.1.hops;
 }
 
-from_links : (N : ℕ → Type 0) (E : ℕ → ℕ → Type 0) (m : HeapStructure) → IsLinked N E m → LinkRowsOf N E m × KeepsCells N E m
+from_links : (N : ℕ → Type 0) (E : ℕ → ℕ → Type 0) (m : HeapStructure) → IsLinked N E m
+    → LinkRowsOf N E m × KeepsCells N E m
 from_links N E m L = (
   record {
     row_11 = λ x v a. L.row_11 x v a.0 a.1 a.2;

@@ -30,15 +30,18 @@ MaybeHop V h x = ((w : ℕ) × Hop V h x w) ⊎ (Contains V x → Allocated h x 
 maybe_hop : (V : List ℕ) (h : Heap) → get h 0 ≡ None → Owned V h → (x : ℕ) → MaybeHop V h x
 maybe_hop V h null own x = elim (named_or V x) [
   | inr out ↦ inr (λ c _. out c)
-  | inl c ↦ elim (allocated_or h x) [ inl a ↦ inl (hops_exist V h x null own c a) | inr none ↦ inr (λ _ a. let there = a.1 in absurd cc) ]
+  | inl c ↦ elim (allocated_or h x)
+      [ inl a ↦ inl (hops_exist V h x null own c a) | inr none ↦ inr (λ _ a. let there = a.1 in absurd cc) ]
 ]
 
 abbrev hops_to : (V : List ℕ) (h : Heap) (x v : ℕ) → MaybeHop V h x → Bool
 hops_to V h x v (inl (w, t)) = w == v
 hops_to V h x v (inr none) = false
 
-hops_decide : (V : List ℕ) (h : Heap) (x v : ℕ) (o : MaybeHop V h x) → Contains V x → Decides (hops_to V h x v o) (Hop V h x v)
-hops_decide V h x v (inl (w, t)) c = (λ e. subst (Hop V h x) (eqb-true w v e) t, λ u. eq-eqb w v (one_hop V h x w v t u))
+hops_decide : (V : List ℕ) (h : Heap) (x v : ℕ) (o : MaybeHop V h x) → Contains V x
+    → Decides (hops_to V h x v o) (Hop V h x v)
+hops_decide V h x v (inl (w, t)) c =
+    (λ e. subst (Hop V h x) (eqb-true w v e) t, λ u. eq-eqb w v (one_hop V h x w v t u))
 hops_decide V h x v (inr none) c = (λ e. absurd (false≢true e), λ u. absurd (none c u.allocated))
 
 pub some_decides : (o : Option ℕ) → Decides (is_some o) ((v : ℕ) × (o ≡ Some v))

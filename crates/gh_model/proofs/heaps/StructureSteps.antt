@@ -16,19 +16,23 @@ use Rattle.gh_assert.proofs.Unique.{get_removed, get_kept}
 use Rattle.gh_model.specs.Structures.{HeapStructure}
 use Rattle.gh_model.specs.Representations.{Represents, AgreeOn}
 use Rattle.gh_model.specs.Transitions.{IsSetAside, IsAwayFrom, IsPut}
-use Rattle.gh_model.specs.StepLaws.{AreRepresented, WritesAreRepresented, NewsAreRepresented, FreesAreRepresented, CallsAreRepresented}
+use Rattle.gh_model.specs.StepLaws.{AreRepresented, WritesAreRepresented, NewsAreRepresented, FreesAreRepresented}
+use Rattle.gh_model.specs.StepLaws.{CallsAreRepresented}
 use Rattle.gh_model.proofs.heaps.Agreement.{assertions_agree}
 use Rattle.gh_model.proofs.ownership.Updates.{cell_off, not_null}
 
 -- from the cells of a part that two heaps share the hops are the same
-shared : (V : List ℕ) (h k b : Heap) (z v : ℕ) → IsPart b h → IsPart b k → Owned V b → (Allocated h z → Allocated b z) → (Allocated k z → Allocated b z) → Hop V k z v ↔ Hop V h z v
+shared : (V : List ℕ) (h k b : Heap) (z v : ℕ) → IsPart b h → IsPart b k → Owned V b → (Allocated h z → Allocated b z)
+    → (Allocated k z → Allocated b z) → Hop V k z v ↔ Hop V h z v
 shared V h k b z v ph pk own from_h from_k = (
   λ t. let a = from_k t.allocated in (hops_are_kept V h b z v ph own a).0 ((hops_are_kept V k b z v pk own a).1 t),
   λ t. let a = from_h t.allocated in (hops_are_kept V k b z v pk own a).0 ((hops_are_kept V h b z v ph own a).1 t),
 )
 
 -- and so are the structures' hops
-shared_hops : (V : List ℕ) (h k : Heap) (m n : HeapStructure) → AreRepresented V h k m n → (b : Heap) (z v : ℕ) → Contains V z → Contains V v → IsPart b h → IsPart b k → Owned V b → (Allocated h z → Allocated b z) → (Allocated k z → Allocated b z) → IsTrue (n.hop z v) ↔ IsTrue (m.hop z v)
+shared_hops : (V : List ℕ) (h k : Heap) (m n : HeapStructure) → AreRepresented V h k m n → (b : Heap) (z v : ℕ)
+    → Contains V z → Contains V v → IsPart b h → IsPart b k → Owned V b → (Allocated h z → Allocated b z)
+    → (Allocated k z → Allocated b z) → IsTrue (n.hop z v) ↔ IsTrue (m.hop z v)
 shared_hops V h k m n T b z v cz cv ph pk own from_h from_k =
     let same = shared V h k b z v ph pk own from_h from_k in
     let one = T.represents.hop z v cz cv in
@@ -36,7 +40,8 @@ shared_hops V h k m n T b z v cz cv ph pk own from_h from_k =
     (λ e. one.1 (same.0 (two.0 e)), λ e. two.1 (same.1 (one.0 e)))
 
 -- the hop to a named content
-hop_here : (V : List ℕ) (k : Heap) (n : HeapStructure) → Represents V k n → (x v : ℕ) → Contains V x → Contains V v → get k x ≡ Some v → IsTrue (n.hop x v)
+hop_here : (V : List ℕ) (k : Heap) (n : HeapStructure) → Represents V k n → (x v : ℕ) → Contains V x → Contains V v
+    → get k x ≡ Some v → IsTrue (n.hop x v)
 hop_here V k n T x v cx cv e =
     let at : succ k x ≡ v = succ_at k x v e in
     (T.hop x v cx cv).1 (subst (Hop V k x) at ((hop_rows V k).content x (v, e) (subst (Contains V) (sym at) cv)))
@@ -61,8 +66,11 @@ after_put : (h k : Heap) (x z : ℕ) → IsAwayFrom x h k → z ≢ x → Alloca
 after_put h k x z away other a = (a.0, away z other ∙ a.1)
 
 -- the heap after a write, without the cell
-rest_owned : (V : List ℕ) (h k : Heap) (x v : ℕ) → IsProper k → Owned V k → Contains V x → Contains V v → IsPut h k x v → Owned V (remove k x)
-rest_owned V h k x v proper own cx cv put = (cells_come_and_go V k (one_cell x v) (remove k x) x v (cell_off k x v put.here) (is_one_cell x v (not_null k x v proper put.here)) cx cv).0 own
+rest_owned : (V : List ℕ) (h k : Heap) (x v : ℕ) → IsProper k → Owned V k → Contains V x → Contains V v → IsPut h k x v
+    → Owned V (remove k x)
+rest_owned V h k x v proper own cx cv put =
+    (cells_come_and_go V k (one_cell x v) (remove k x) x v (cell_off k x v put.here)
+    (is_one_cell x v (not_null k x v proper put.here)) cx cv).0 own
 
 pub writes_are_represented : WritesAreRepresented
 writes_are_represented V h k m n T x v cx cv a put = record {
@@ -70,12 +78,19 @@ writes_are_represented V h k m n T x v cx cv a put = record {
       let one = T.represents.alloc z cz in
       let two = T.represents_after.alloc z cz in
       elim (cases_eq z x) [
-        | inl same ↦ (λ e. one.1 (subst (Allocated h) (sym same) a), λ e. two.1 (subst (Allocated k) (sym same) (v, put.here)))
-        | inr other ↦ (λ e. one.1 (before_put h k x z put.elsewhere other (two.0 e)), λ e. two.1 (after_put h k x z put.elsewhere other (one.0 e)))
+        | inl same ↦ (
+          λ e. one.1 (subst (Allocated h) (sym same) a),
+          λ e. two.1 (subst (Allocated k) (sym same) (v, put.here)),
+        )
+        | inr other ↦ (
+          λ e. one.1 (before_put h k x z put.elsewhere other (two.0 e)),
+          λ e. two.1 (after_put h k x z put.elsewhere other (one.0 e)),
+        )
       ];
   here = hop_here V k n T.represents_after x v cx cv put.here;
   kept = λ z w cz cw other.
-      shared_hops V h k m n T (remove k x) z w cz cw (away_part k h x (λ q away. sym (put.elsewhere q away))) (removed_part k x) (rest_owned V h k x v T.proper_after T.owned_after cx cv put)
+      shared_hops V h k m n T (remove k x) z w cz cw (away_part k h x (λ q away. sym (put.elsewhere q away)))
+      (removed_part k x) (rest_owned V h k x v T.proper_after T.owned_after cx cv put)
       (λ b. in_removed k x z other (after_put h k x z put.elsewhere other b)) (in_removed k x z other);
 }
 
@@ -85,7 +100,11 @@ news_are_represented V h k m n T x v cx cv fresh put = record {
   alloc = λ z cz.
       let one = T.represents.alloc z cz in
       let two = T.represents_after.alloc z cz in (
-        λ e. elim (cases_eq z x) [ inl same ↦ inr same | inr other ↦ inl (one.1 (before_put h k x z put.elsewhere other (two.0 e))) ],
+        λ e. elim (cases_eq z x) [
+          | inl same ↦ inr same
+          | inr other ↦ inl
+              (one.1 (before_put h k x z put.elsewhere other (two.0 e)))
+        ],
         λ u. elim u [
           | inl e ↦ elim (cases_eq z x) [
             | inl same ↦ two.1 (subst (Allocated k) (sym same) (v, put.here))
@@ -113,13 +132,15 @@ frees_are_represented V h k m n T x cx freed = record {
         λ e. (
             let there = two.0 e in
             elim (cases_eq z x) [
-              | inl same ↦ let some : get k z ≡ Some there.0 = there.1 in let none : get k z ≡ None = ap (get k) same ∙ freed.here in absurd cc
+              | inl same ↦ let some : get k z ≡ Some there.0 = there.1 in
+                  let none : get k z ≡ None = ap (get k) same ∙ freed.here in absurd cc
               | inr other ↦ (one.1 (before_put h k x z freed.elsewhere other there), other)
             ]
             ),
         λ u. two.1 (after_put h k x z freed.elsewhere u.1 (one.0 u.0)),
       );
-  kept = λ z w cz cw other. shared_hops V h k m n T k z w cz cw part (λ q u e. e) T.owned_after (after_put h k x z freed.elsewhere other) (λ b. b);
+  kept = λ z w cz cw other. shared_hops V h k m n T k z w cz cw part (λ q u e. e) T.owned_after
+      (after_put h k x z freed.elsewhere other) (λ b. b);
 }
   where
     part : IsPart k h
@@ -132,14 +153,20 @@ pub calls_are_represented : CallsAreRepresented
 calls_are_represented V h k m n p q s t T np nq C = record {
   before = before.part.1 (C.given, given, C.meets);
   after = after.part.1 (C.back, back, C.returns);
-  apart = λ z cz kept inside. parts_apart k C.back C.rest z C.after ((after.footprint C.back back C.returns z cz).1 inside) (in_rest z cz kept);
+  apart =
+      λ z cz kept inside. parts_apart k C.back C.rest z C.after ((after.footprint C.back back C.returns z cz).1 inside)
+      (in_rest z cz kept);
   alloc = λ z cz.
       let two = T.represents_after.alloc z cz in (
         λ e. (
             let there = two.0 e in
             elim (in_either k C.back C.rest z there.0 (C.after.union z) there.1) [
               | inl b ↦ inr ((after.footprint C.back back C.returns z cz).0 (there.0, b))
-              | inr b ↦ inl ((T.represents.alloc z cz).1 (there.0, rest z there.0 b), λ inside. parts_apart h C.given C.rest z C.before ((before.footprint C.given given C.meets z cz).1 inside) (there.0, b))
+              | inr b ↦ inl (
+                (T.represents.alloc z cz).1 (there.0, rest z there.0 b),
+                λ inside. parts_apart h C.given C.rest z C.before
+                    ((before.footprint C.given given C.meets z cz).1 inside) (there.0, b),
+              )
             ]
             ),
         λ u. elim u [
@@ -147,7 +174,8 @@ calls_are_represented V h k m n p q s t T np nq C = record {
           | inr inside ↦ let b = (after.footprint C.back back C.returns z cz).1 inside in two.1 (b.0, back z b.0 b.1)
         ],
       );
-  kept = λ z v cz cv kept. shared_hops V h k m n T C.rest z v cz cv rest rest' own (λ a. in_rest z cz kept) (λ a. in_rest z cz kept);
+  kept = λ z v cz cv kept. shared_hops V h k m n T C.rest z v cz cv rest rest' own (λ a. in_rest z cz kept)
+      (λ a. in_rest z cz kept);
 }
   where
     before : AgreeOn V h m s p

@@ -11,6 +11,8 @@ use Rattle.gh_path.proofs.ListLemmas.{member}
 pub its_declared : (P : Program) (proc : Procedure) (c : Condition) → IsOf P c proc → Contains P.procedures proc
 its_declared P proc c of = member P.procedures c.procedure proc of
 
-pub its_path : (P : Program) (proc : Procedure) (c : Condition) → IsCondition P c → IsOf P c proc → Path (graph_from P proc c.start) c.way.steps c.way.check
+pub its_path : (P : Program) (proc : Procedure) (c : Condition) → IsCondition P c → IsOf P c proc
+    → Path (graph_from P proc c.start) c.way.steps c.way.check
 its_path P proc c is of =
-    subst (λ (q : Procedure). Path (graph_from P q c.start) c.way.steps c.way.check) (one_value (slice_get P.procedures c.procedure) is.procedure proc is.of of) is.leads
+    subst (λ (q : Procedure). Path (graph_from P q c.start) c.way.steps c.way.check)
+    (one_value (slice_get P.procedures c.procedure) is.procedure proc is.of of) is.leads

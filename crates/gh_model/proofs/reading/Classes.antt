@@ -1,5 +1,6 @@
 -- From terms to their classes.
-use Rattle.std.specs.Prelude.{◌≡◌, ℕ, zero, suc, ◌+◌, ◌≤◌, ◌<◌, List, [], ◌∷◌, map, Bool, true, false, cond, IsTrue, Contains}
+use Rattle.std.specs.Prelude.{◌≡◌, ℕ, zero, suc, ◌+◌, ◌≤◌, ◌<◌, List, [], ◌∷◌, map, Bool, true, false, cond, IsTrue}
+use Rattle.std.specs.Prelude.{Contains}
 use Rattle.std.proofs.lemmas.Bool.{cases_eq}
 use Rattle.std.proofs.Common.{refl, sym, ◌∙◌, ap, subst, inl, inr, arith}
 use Rattle.gh_assert.proofs.Owned.{later_one, first_or_later}
@@ -10,7 +11,10 @@ use Rattle.gh_model.specs.Laws.{ClassesAreModels}
 use Rattle.gh_model.proofs.heaps.Cells.{first_passes}
 
 -- what holds of terms holds of some of them, where equal ones are one
-some_keep : (N K : ℕ → Type 0) (E F : ℕ → ℕ → Type 0) (m : HeapStructure) → ((x : ℕ) → K x → N x) → ((x y : ℕ) → K x → K y → E x y → F x y) → ((x v : ℕ) → K x → N v → IsTrue (m.hop x v) → (w : ℕ) × K w × IsTrue (m.hop x w)) → KeepsAxioms N E m → KeepsAxioms K F m
+some_keep : (N K : ℕ → Type 0) (E F : ℕ → ℕ → Type 0) (m : HeapStructure) → ((x : ℕ) → K x → N x)
+    → ((x y : ℕ) → K x → K y → E x y → F x y)
+    → ((x v : ℕ) → K x → N v → IsTrue (m.hop x v) → (w : ℕ) × K w × IsTrue (m.hop x w)) → KeepsAxioms N E m
+    → KeepsAxioms K F m
 some_keep N K E F m in_N one hop M = record {
   ordered = record {
     row_1 = λ x kx. M.ordered.row_1 x (in_N x kx);
@@ -26,8 +30,12 @@ some_keep N K E F m in_N one hop M = record {
   };
   linked = record {
     row_11 = λ x v kx kv. M.linked.row_11 x v (in_N x kx) (in_N v kv);
-    row_12 = λ x v w kx kv kw a b. elim (M.linked.row_12 x v w (in_N x kx) (in_N v kv) (in_N w kw) a b) [ inl e ↦ inl (one w x kw kx e) | inr c ↦ inr c ];
-    row_13 = λ x y kx ky b. elim (M.linked.row_13 x y (in_N x kx) (in_N y ky) b) [ inl a ↦ inl a | inr e ↦ inr (one x y kx ky e) ];
+    row_12 =
+        λ x v w kx kv kw a b. elim (M.linked.row_12 x v w (in_N x kx) (in_N v kv) (in_N w kw) a b)
+        [ inl e ↦ inl (one w x kw kx e) | inr c ↦ inr c ];
+    row_13 =
+        λ x y kx ky b. elim (M.linked.row_13 x y (in_N x kx) (in_N y ky) b)
+        [ inl a ↦ inl a | inr e ↦ inr (one x y kx ky e) ];
     row_14 = λ x w kx kw a b. one w x kw kx (M.linked.row_14 x w (in_N x kx) (in_N w kw) a b);
     row_15 = λ x v kx kv. M.linked.row_15 x v (in_N x kx) (in_N v kv);
     null = M.linked.null;
@@ -70,20 +78,25 @@ same_test false true f g = g refl
 
 first_same : (p q : ℕ → Bool) (vs : List ℕ) → ((v : ℕ) → Contains vs v → p v ≡ q v) → first p vs ≡ first q vs
 first_same p q [] e = refl
-first_same p q (v ∷ vs) e = ap (λ b. cond b v (first p vs)) (e v (0, omega arith, refl)) ∙ ap (cond (q v) v) (first_same p q vs (λ w c. e w (later_one v w vs c)))
+first_same p q (v ∷ vs) e =
+    ap (λ b. cond b v (first p vs)) (e v (0, omega arith, refl))
+    ∙ ap (cond (q v) v) (first_same p q vs (λ w c. e w (later_one v w vs c)))
 
 -- a term equals its class, which is a term
-class_term : (equal : ℕ → ℕ → Bool) (n : ℕ) (m : HeapStructure) → IsCongruence equal n m → (t : ℕ) → t < n → (class_of equal n t < n) × IsTrue (equal t (class_of equal n t))
+class_term : (equal : ℕ → ℕ → Bool) (n : ℕ) (m : HeapStructure) → IsCongruence equal n m → (t : ℕ) → t < n
+    → (class_of equal n t < n) × IsTrue (equal t (class_of equal n t))
 class_term equal n m C t l =
     let found = first_passes (equal t) (numbers 0 n) t (numbered 0 n t (omega arith) (omega arith)) (C.itself t l) in
     (omega (arith, below 0 n (class_of equal n t) found.0), found.1)
 
-same_class : (equal : ℕ → ℕ → Bool) (n : ℕ) (m : HeapStructure) → IsCongruence equal n m → (x y : ℕ) → x < n → y < n → IsTrue (equal x y) → class_of equal n x ≡ class_of equal n y
+same_class : (equal : ℕ → ℕ → Bool) (n : ℕ) (m : HeapStructure) → IsCongruence equal n m → (x y : ℕ) → x < n → y < n
+    → IsTrue (equal x y) → class_of equal n x ≡ class_of equal n y
 same_class equal n m C x y lx ly e = first_same (equal x) (equal y) (numbers 0 n) (λ v c.
     let lv : v < n = omega (arith, below 0 n v c) in
     same_test (equal x v) (equal y v) (C.on y x v ly lx lv (C.back x y lx ly e)) (C.on x y v lx ly lv e))
 
-own_class : (equal : ℕ → ℕ → Bool) (n : ℕ) (m : HeapStructure) → IsCongruence equal n m → (c : ℕ) → Contains (classes equal n) c → (c < n) × (class_of equal n c ≡ c)
+own_class : (equal : ℕ → ℕ → Bool) (n : ℕ) (m : HeapStructure) → IsCongruence equal n m → (c : ℕ)
+    → Contains (classes equal n) c → (c < n) × (class_of equal n c ≡ c)
 own_class equal n m C c named =
     let of = from_map (class_of equal n) (numbers 0 n) c named in
     let lt : of.0 < n = omega (arith, below 0 n of.0 of.1) in
@@ -97,22 +110,30 @@ class_of_null equal (suc n) l e = ap (λ b. cond b 0 (first (equal 0) (numbers 1
 
 pub classes_are_models : ClassesAreModels
 classes_are_models equal n m some C M = record {
-  model = some_keep (λ t. t < n) (Contains (classes equal n)) (λ x y. IsTrue (equal x y)) (λ x y. x ≡ y) m (λ x c. (own x c).0) one hop M;
+  model =
+      some_keep (λ t. t < n) (Contains (classes equal n)) (λ x y. IsTrue (equal x y)) (λ x y. x ≡ y) m
+      (λ x c. (own x c).0) one hop M;
   named = named;
   own = own;
   null = class_of_null equal n some (C.itself 0 some);
   agrees = λ x y lx ly. (
     same_class equal n m C x y lx ly,
-    λ e. C.on x (class_of equal n x) y lx (term x lx).0 ly (term x lx).1 (subst (λ u. IsTrue (equal u y)) (sym e) (back y ly)),
+    λ e. C.on x (class_of equal n x) y lx (term x lx).0 ly (term x lx).1
+        (subst (λ u. IsTrue (equal u y)) (sym e) (back y ly)),
   );
-  alloc = λ x lx. (C.alloc x (class_of equal n x) lx (term x lx).0 (term x lx).1, C.alloc (class_of equal n x) x (term x lx).0 lx (back x lx));
+  alloc = λ x lx. (
+    C.alloc x (class_of equal n x) lx (term x lx).0 (term x lx).1,
+    C.alloc (class_of equal n x) x (term x lx).0 lx (back x lx),
+  );
   hop = λ x v lx lv. (
     C.hop x (class_of equal n x) v (class_of equal n v) lx (term x lx).0 lv (term v lv).0 (term x lx).1 (term v lv).1,
     C.hop (class_of equal n x) x (class_of equal n v) v (term x lx).0 lx (term v lv).0 lv (back x lx) (back v lv),
   );
   between = λ x y z lx ly lz. (
-    C.between x (class_of equal n x) y (class_of equal n y) z (class_of equal n z) lx (term x lx).0 ly (term y ly).0 lz (term z lz).0 (term x lx).1 (term y ly).1 (term z lz).1,
-    C.between (class_of equal n x) x (class_of equal n y) y (class_of equal n z) z (term x lx).0 lx (term y ly).0 ly (term z lz).0 lz (back x lx) (back y ly) (back z lz),
+    C.between x (class_of equal n x) y (class_of equal n y) z (class_of equal n z) lx (term x lx).0 ly (term y ly).0 lz
+        (term z lz).0 (term x lx).1 (term y ly).1 (term z lz).1,
+    C.between (class_of equal n x) x (class_of equal n y) y (class_of equal n z) z (term x lx).0 lx (term y ly).0 ly
+        (term z lz).0 lz (back x lx) (back y ly) (back z lz),
   );
 }
   where
@@ -134,8 +155,12 @@ classes_are_models equal n m some C M = record {
         let oy = own_class equal n m C y cy in
         sym ox.1 ∙ same_class equal n m C x y ox.0 oy.0 e ∙ oy.1
 
-    hop : (x v : ℕ) → Contains (classes equal n) x → v < n → IsTrue (m.hop x v) → (w : ℕ) × Contains (classes equal n) w × IsTrue (m.hop x w)
+    hop : (x v : ℕ) → Contains (classes equal n) x → v < n → IsTrue (m.hop x v)
+        → (w : ℕ) × Contains (classes equal n) w × IsTrue (m.hop x w)
     hop x v cx lv a =
         let ox = own_class equal n m C x cx in
-        let tv = class_term equal n m C v lv in
-        (class_of equal n v, mapped (class_of equal n) (numbers 0 n) v (numbered 0 n v (omega arith) (omega arith)), C.hop x x v (class_of equal n v) ox.0 ox.0 lv tv.0 (C.itself x ox.0) tv.1 a)
+        let tv = class_term equal n m C v lv in (
+          class_of equal n v,
+          mapped (class_of equal n) (numbers 0 n) v (numbered 0 n v (omega arith) (omega arith)),
+          C.hop x x v (class_of equal n v) ox.0 ox.0 lv tv.0 (C.itself x ox.0) tv.1 a,
+        )

@@ -3,7 +3,7 @@
 ghost use Rattle.std.specs.Prelude.{◌<◌, ◌≤◌};
 
 use super::plain::written_out;
-use super::{Verdict, decided, push};
+use super::{Verdict, Way, decided, decided_by, push};
 use gh_base::atom::{Atom, Lit, Term};
 use gh_base::clause::Clause;
 use gh_base::ground::Ground;
@@ -180,7 +180,7 @@ fn has_model(verdict: Verdict) -> Option<bool> {
 }
 
 // How many grounds of a row have a model, if each answer is that of all structures.
-fn count_by_structures(alloc: Global, row: Row) -> Result<Option<usize>, AllocError>
+fn count_by_structures(alloc: Global, row: Row, way: Way) -> Result<Option<usize>, AllocError>
     requires terms { 1 ≤ row.terms }
     requires versions { 1 ≤ row.versions }
 {
@@ -190,7 +190,7 @@ fn count_by_structures(alloc: Global, row: Row) -> Result<Option<usize>, AllocEr
     for _number in 0..100 {
         let ground = random_ground(alloc, &mut random, row)?;
         let wanted = structures.iter().any(|bits| is_model(&ground, *bits));
-        if has_model(decided(alloc, &ground)?) != Some(wanted) {
+        if has_model(decided_by(alloc, &ground, way)?) != Some(wanted) {
             return Ok(None);
         }
         models = models.saturating_add(usize::from(wanted));
@@ -198,17 +198,44 @@ fn count_by_structures(alloc: Global, row: Row) -> Result<Option<usize>, AllocEr
     Ok(Some(models))
 }
 
+const BESIDE_STRUCTURES: &[Row] = &[
+    Row {
+        terms: 1,
+        versions: 1,
+        clauses: 3,
+    },
+    Row {
+        terms: 1,
+        versions: 3,
+        clauses: 6,
+    },
+    Row {
+        terms: 2,
+        versions: 1,
+        clauses: 6,
+    },
+];
+
+// Whether some grounds of a row have a model and others don't, and each answer is that of all structures.
+fn are_as_structures(alloc: Global, row: Row, way: Way) -> Result<bool, AllocError> {
+    if row.terms == 0 || row.versions == 0 {
+        return Ok(false);
+    }
+    Ok(matches!(count_by_structures(alloc, row, way)?, Some(1..100)))
+}
+
 #[test]
 fn beside_all_structures(rt: HostRuntime) -> Result<(), AllocError> {
-    let rows = [(1, 1, 3), (1, 3, 6), (2, 1, 6)];
-    for (terms, versions, clauses) in rows {
-        let row = Row {
-            terms,
-            versions,
-            clauses,
-        };
-        let models = count_by_structures(rt.alloc(), row)?;
-        assert!(rt; matches!(models, Some(1..100)));
+    for row in BESIDE_STRUCTURES {
+        assert!(rt; are_as_structures(rt.alloc(), *row, Way::Sought)?);
+    }
+    Ok(())
+}
+
+#[test]
+fn alone_beside_all_structures(rt: HostRuntime) -> Result<(), AllocError> {
+    for row in BESIDE_STRUCTURES {
+        assert!(rt; are_as_structures(rt.alloc(), *row, Way::Alone)?);
     }
     Ok(())
 }

@@ -3,5 +3,6 @@ use Rattle.gh_ast.proofs.print.put_call.Goals as goal
 
 pub returns : goal.returns
 returns c =
-    and_then (and_then c.in_ok-put_targets.ensures (and_then (and_then c.in_ok-put_name.ensures c.in_ok-put_sign.ensures) c.in_ok-put_exprs.ensures))
+    and_then (and_then c.in_ok-put_targets.ensures
+    (and_then (and_then c.in_ok-put_name.ensures c.in_ok-put_sign.ensures) c.in_ok-put_exprs.ensures))
     (and_then c.in_ok-put_sign-2.ensures c.in_ok-put_sign-3.ensures)

@@ -3,4 +3,5 @@ use Rattle.gh_ast.proofs.print.put_head.Goals as goal
 
 pub returns : goal.returns
 returns c =
-    and_then (and_then (and_then (and_then c.in_ok-put_key.ensures c.in_ok-put_name.ensures) c.in_ok-put_sign.ensures) c.in_ok-put_parameters.ensures) c.in_ok-put_sign-2.ensures
+    and_then (and_then (and_then (and_then c.in_ok-put_key.ensures c.in_ok-put_name.ensures) c.in_ok-put_sign.ensures)
+    c.in_ok-put_parameters.ensures) c.in_ok-put_sign-2.ensures

@@ -15,24 +15,24 @@ loop-t-preserved c =
     elim c.if-is_moved.branch [
       | then-is_moved+in_default w ↦
           let f = w.in_default.ensures in
-          let now = w.refile_term.new.signs in
-          rw w.signs-is (record {
+          let now = w.refile_term.new.signatures in
+          rw w.signatures-is (record {
             tied = f.tied;
             grows = grows_on _ _ _ i.grows f.grows;
             filed = λ n k u at mentions below moved.
                 elim (cases_eq u.0 c.loop-t.t) as (λ _. IsFiled c.args.indexed.now.sizes lits links now.entries k) [
                   | inl same ↦ f.filed n k at (subst (Mentions k.atom) (ap term same) mentions)
-                  | inr ne ↦ grows_filed c.args.indexed.now.sizes lits links c.loop-t.signs now f.grows k
+                  | inr ne ↦ grows_filed c.args.indexed.now.sizes lits links c.loop-t.signatures now f.grows k
                       (i.filed n k u at mentions (omega arith) moved)
                 ];
           })
       | else-is_moved w ↦
-          rw w.signs-is (record {
+          rw w.signatures-is (record {
             tied = i.tied;
             grows = i.grows;
             filed = λ n k u at mentions below moved.
                 elim (cases_eq u.0 c.loop-t.t) as (λ _.
-                IsFiled c.args.indexed.now.sizes lits links c.loop-t.signs.entries k) [
+                IsFiled c.args.indexed.now.sizes lits links c.loop-t.signatures.entries k) [
                   | inl same ↦ absurd (w.if-is_moved.ensures (subst (IsMoved links) (ap term same) moved))
                   | inr ne ↦ i.filed n k u at mentions (omega arith) moved
                 ];

@@ -13,7 +13,7 @@ loop-next-init c =
     let e = c.last-next.ensures in
     record {
       tied = c.requires.tied;
-      grows = grows_none c.args.signs.now;
+      grows = grows_none c.args.signatures.now;
       within = e.within;
       here = e.here;
       filed = λ j k low at there.
@@ -38,17 +38,17 @@ loop-next-preserved c =
       filed = λ j k low at there.
           elim (cases_lt j (c.loop-next.next - 1)) as (λ _.
           IsFiled c.args.indexed.now.sizes c.args.indexed.now.lits.now c.args.partition.now.links
-          c.file.new.signs.entries k) [
+          c.file.new.signatures.entries k) [
             | inl lt ↦ absurd (e.none j low lt at)
             | inr ge ↦ elim (cases_lt j c.loop-next.next) as (λ _.
                 IsFiled c.args.indexed.now.sizes c.args.indexed.now.lits.now c.args.partition.now.links
-                c.file.new.signs.entries k) [
+                c.file.new.signatures.entries k) [
                   | inl here ↦
                       let is : j ≡ c.loop-next.next - 1 = omega arith in
                       f.filed k (subst (λ n. slice_get c.args.indexed.now.lits.now (n / 3) ≡ Some k) is there)
                   | inr past ↦
                       grows_filed c.args.indexed.now.sizes c.args.indexed.now.lits.now c.args.partition.now.links
-                      c.loop-next.signs c.file.new.signs f.grows k (i.filed j k past at there)
+                      c.loop-next.signatures c.file.new.signatures f.grows k (i.filed j k past at there)
                 ]
           ];
     }

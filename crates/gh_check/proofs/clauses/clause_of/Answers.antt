@@ -12,16 +12,19 @@ none_there [] k e = refl
 none_there (c ∷ clauses) zero e = absurd (cc)
 none_there (c ∷ clauses) (suc k) e = none_there clauses k e
 
-some_there : (clauses : List (List Lit)) (k : ℕ) (c : List Lit) → Some c ≡ slice_get clauses k → c ≡ slice_index_or clauses k []
+some_there : (clauses : List (List Lit)) (k : ℕ) (c : List Lit) → Some c ≡ slice_get clauses k
+    → c ≡ slice_index_or clauses k []
 some_there clauses k c e = sym (get_or_from_slice_get clauses k c [] (sym e))
 
 pub returns-in-None-clause : goal.returns-in-None-clause
 returns-in-None-clause c =
     let p = c.args.ground.now in
-    subst (λ (l : LogLine). [] ≡ unwrap_or (line_clause p (line_of l)) []) (sym c.in-Clause.is) (none_there p.clauses c.in-Clause.number c.in-None-clause.ensures.found)
+    subst (λ (l : LogLine). [] ≡ unwrap_or (line_clause p (line_of l)) []) (sym c.in-Clause.is)
+    (none_there p.clauses c.in-Clause.number c.in-None-clause.ensures.found)
 
 pub returns-in-Some-clause : goal.returns-in-Some-clause
 returns-in-Some-clause c =
     let p = c.args.ground.now in
     subst (λ (l : LogLine). c.lits.result.now ≡ unwrap_or (line_clause p (line_of l)) []) (sym c.in-Clause.is)
-    (c.lits.ensures ∙ some_there p.clauses c.in-Clause.number c.in-Some-clause.clause.now c.in-Some-clause.ensures.found)
+    (c.lits.ensures ∙ some_there p.clauses c.in-Clause.number c.in-Some-clause.clause.now
+    c.in-Some-clause.ensures.found)

@@ -6,12 +6,17 @@ use Rattle.gh_check.proofs.UnitsLemmas.{none_present, one_present}
 use Rattle.gh_check.proofs.units.insert_at.Goals as goal
 
 pub returns-then-not-has_clause-clause-clauses : goal.returns-then-not-has_clause-clause-clauses
-returns-then-not-has_clause-clause-clauses c = none_present c.args.learner.now.clauses c.args.kept.now.clauses c.args.position (sym c.if-not-has_clause.ensures)
+returns-then-not-has_clause-clause-clauses c =
+    none_present c.args.search.now.clauses c.args.kept.now.clauses c.args.position (sym c.if-not-has_clause.ensures)
 
 pub insert-requires-clause-range : goal.insert-requires-clause-range
 insert-requires-clause-range c =
-    subst (AreInRange c.args.learner.now.sizes) (sym (c.in_ok-from_lits.ensures ∙ c.lits.ensures ∙ c.clause-clause.ensures)) (at_within c.args.learner.now.sizes c.args.kept.now c.args.position c.requires.within)
+    subst (AreInRange c.args.search.now.sizes)
+    (sym (c.in_ok-from_lits.ensures ∙ c.lits.ensures ∙ c.clause-clause.ensures))
+    (at_within c.args.search.now.sizes c.args.kept.now c.args.position c.requires.within)
 
 pub returns-clause-clauses : goal.returns-clause-clauses
 returns-clause-clauses c =
-    ap (λ (s : SearchState). s.clauses) c.in_ok-insert.ensures.ok ∙ one_present c.args.learner.now.clauses c.args.kept.now.clauses c.args.position c.in_ok-from_lits.field-0 (c.in_ok-from_lits.ensures ∙ c.lits.ensures ∙ c.clause-clause.ensures) (sym c.if-not-has_clause.ensures)
+    ap (λ (s : SearchState). s.clauses) c.in_ok-insert.ensures.ok
+    ∙ one_present c.args.search.now.clauses c.args.kept.now.clauses c.args.position c.in_ok-from_lits.field-0
+    (c.in_ok-from_lits.ensures ∙ c.lits.ensures ∙ c.clause-clause.ensures) (sym c.if-not-has_clause.ensures)

@@ -6,17 +6,20 @@ use Rattle.gh_check.proofs.units.refutes.Goals as goal
 
 pub returns-in-Some-true-clause-refuting : goal.returns-in-Some-true-clause-refuting
 returns-in-Some-true-clause-refuting c =
-    let s = c.args.learner.now in
+    let s = c.args.search.now in
     let e : value_of c.assignment.result.now c.args.lit ≡ Some true = cc in
-    let t : IsTrueIn s.trail c.args.lit = subst (IsTruth s.trail c.args.lit) e (c.assignment.ensures.tells c.args.lit c.requires.range) in
+    let t : IsTrueIn s.trail c.args.lit =
+    subst (IsTruth s.trail c.args.lit) e (c.assignment.ensures.tells c.args.lit c.requires.range) in
     λ yes. true_refutes s c.args.lit t
 
 pub returns-in-None-clause-refuting : goal.returns-in-None-clause-refuting
 returns-in-None-clause-refuting c =
-    refuting_if c.args.learner.now c.assume.new.self c.propagate.new.self _ c.negated.result c.propagate.result c.is_some.result c.negated.ensures c.assume.ensures.opens c.propagate.ensures.moves
+    refuting_if c.args.search.now c.assume.new.self c.propagate.new.self _ c.negated.result c.propagate.result
+    c.is_some.result c.negated.ensures c.assume.ensures.opens c.propagate.ensures.moves
     c.propagate.ensures.conflict c.is_some.ensures
 
 pub returns-in-None-clause-assumed : goal.returns-in-None-clause-assumed
 returns-in-None-clause-assumed c =
-    assumed_if c.args.learner.now c.assume.new.self c.propagate.new.self _ c.negated.result c.propagate.result c.is_some.result c.negated.ensures c.assume.ensures.opens c.propagate.ensures.moves
+    assumed_if c.args.search.now c.assume.new.self c.propagate.new.self _ c.negated.result c.propagate.result
+    c.is_some.result c.negated.ensures c.assume.ensures.opens c.propagate.ensures.moves
     c.propagate.ensures.settled c.propagate.ensures.sound c.is_some.ensures

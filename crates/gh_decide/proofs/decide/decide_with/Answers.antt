@@ -12,8 +12,10 @@ returns-in-Refutation c =
     let P = program_of c.args.typed.now in
     let r = c.args.condition.now in
     let proc = c.in_ok-ground.ground in
-    let ground : IsGroundOf P r proc = λ q of. c.in_ok-ground.ensures.told P q (condition_of r) (c.in_ok-symbolic.ensures q of) in
-    let is : IsAnswer proc (Refutation c.in-Refutation.section) = rw c.in-Refutation.is at c.in_ok-section.ensures.answer in
+    let ground : IsGroundOf P r proc =
+    λ q of. c.in_ok-ground.ensures.told P q (condition_of r) (c.in_ok-symbolic.ensures q of) in
+    let is : IsAnswer proc (Refutation c.in-Refutation.section) =
+    rw c.in-Refutation.is at c.in_ok-section.ensures.answer in
     shown P r proc c.in-Refutation.section c.requires.admitted.typed c.requires.one ground is
 
 pub returns : goal.returns
@@ -21,6 +23,8 @@ returns c =
     let P = program_of c.args.typed.now in
     let r = c.args.condition.now in
     let proc = c.in_ok-ground.ground in
-    let ground : IsGroundOf P r proc = λ q of. c.in_ok-ground.ensures.told P q (condition_of r) (c.in_ok-symbolic.ensures q of) in
+    let ground : IsGroundOf P r proc =
+    λ q of. c.in_ok-ground.ensures.told P q (condition_of r) (c.in_ok-symbolic.ensures q of) in
     let is : IsAnswer proc (Model c.in-Model.structure) = rw c.in-Model.is at c.in_ok-section.ensures.answer in
-    refuted P r proc c.in-Model.structure (drawn_of c.in_ok-trace-in-Model.trace) c.requires.admitted.typed c.requires.one ground is c.in_ok-trace-in-Model.ensures
+    refuted P r proc c.in-Model.structure (drawn_of c.in_ok-trace-in-Model.trace) c.requires.admitted.typed
+    c.requires.one ground is c.in_ok-trace-in-Model.ensures

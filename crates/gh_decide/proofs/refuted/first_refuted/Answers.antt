@@ -19,15 +19,18 @@ loop-place-init c = record {
 pub unreachable-requires : goal.unreachable-requires
 unreachable-requires c =
     let P = program_of c.args.typed.now in
-    let count : c.count-place-end.result ≡ length (conditions P) = c.count-place-end.ensures ∙ ap (λ Q. length (conditions Q)) c.requires.same in
-    lent_none P c.loop-place.walk c.advance.new.self c.loop-place.place c.advance.result c.in_ok-more.more c.in_ok-more.was c.if-not-more.true c.loop-place.invariant.before
+    let count : c.count-place-end.result ≡ length (conditions P) =
+    c.count-place-end.ensures ∙ ap (λ Q. length (conditions Q)) c.requires.same in
+    lent_none P c.loop-place.walk c.advance.new.self c.loop-place.place c.advance.result c.in_ok-more.more
+    c.in_ok-more.was c.if-not-more.true c.loop-place.invariant.before
     (omega (arith, count, c.loop-place-test.true)) c.advance.ensures.next
 
 pub decide_with-requires-clause-one : goal.decide_with-requires-clause-one
 decide_with-requires-clause-one c =
     let P = program_of c.args.typed.now in
     let found : IsNumbered P (c.loop-place.place + 1) (Some c.condition.result.now) =
-    lent_one P c.loop-place.walk c.advance.new.self c.loop-place.place c.advance.result c.in_ok-more.more c.condition.result.now c.in_ok-more.was c.if-not-more.false c.condition.ensures
+    lent_one P c.loop-place.walk c.advance.new.self c.loop-place.place c.advance.result c.in_ok-more.more
+    c.condition.result.now c.in_ok-more.was c.if-not-more.false c.condition.ensures
     c.loop-place.invariant.before c.advance.ensures.next in
     is_one P c.loop-place.place c.condition.result.now found
 
@@ -35,25 +38,31 @@ pub returns-in-Refuted-clause-first : goal.returns-in-Refuted-clause-first
 returns-in-Refuted-clause-first c =
     let P = program_of c.args.typed.now in
     let found : IsNumbered P (c.loop-place.place + 1) (Some c.condition.result.now) =
-    lent_one P c.loop-place.walk c.advance.new.self c.loop-place.place c.advance.result c.in_ok-more.more c.condition.result.now c.in_ok-more.was c.if-not-more.false c.condition.ensures
+    lent_one P c.loop-place.walk c.advance.new.self c.loop-place.place c.advance.result c.in_ok-more.more
+    c.condition.result.now c.in_ok-more.was c.if-not-more.false c.condition.ensures
     c.loop-place.invariant.before c.advance.ensures.next in
-    let told : IsVerdict P c.condition.result.now (Refuted c.in-Refuted.trace) = rw c.in-Refuted.is at c.in_ok-trace.ensures in
+    let told : IsVerdict P c.condition.result.now (Refuted c.in-Refuted.trace) =
+    rw c.in-Refuted.is at c.in_ok-trace.ensures in
     next_refuted P c.loop-place.place c.condition.result.now c.in-Refuted.trace found told c.loop-place.invariant.valid
 
 pub loop-place-preserved : goal.loop-place-preserved
 loop-place-preserved c =
     let P = program_of c.args.typed.now in
     let found : IsNumbered P (c.loop-place.place + 1) (Some c.condition.result.now) =
-    lent_one P c.loop-place.walk c.advance.new.self c.loop-place.place c.advance.result c.in_ok-more.more c.condition.result.now c.in_ok-more.was c.if-not-more.false c.condition.ensures
+    lent_one P c.loop-place.walk c.advance.new.self c.loop-place.place c.advance.result c.in_ok-more.more
+    c.condition.result.now c.in_ok-more.was c.if-not-more.false c.condition.ensures
     c.loop-place.invariant.before c.advance.ensures.next in
     let shown = rw c.in-Valid.is at c.in_ok-trace.ensures in
     record {
-      before = lent_on P c.loop-place.walk c.advance.new.self c.loop-place.place c.advance.result c.in_ok-more.more c.in_ok-more.was c.if-not-more.false c.loop-place.invariant.before c.advance.ensures.next;
+      before =
+          lent_on P c.loop-place.walk c.advance.new.self c.loop-place.place c.advance.result c.in_ok-more.more
+          c.in_ok-more.was c.if-not-more.false c.loop-place.invariant.before c.advance.ensures.next;
       valid = valid_more P c.loop-place.place c.condition.result.now found shown.valid c.loop-place.invariant.valid;
     }
 
 pub returns-clause-none : goal.returns-clause-none
 returns-clause-none c =
     let P = program_of c.args.typed.now in
-    let count : c.count-place-end.result ≡ length (conditions P) = c.count-place-end.ensures ∙ ap (λ Q. length (conditions Q)) c.requires.same in
+    let count : c.count-place-end.result ≡ length (conditions P) =
+    c.count-place-end.ensures ∙ ap (λ Q. length (conditions Q)) c.requires.same in
     all_valid P c.loop-place.place c.count-place-end.result count c.loop-place-test.false c.loop-place.invariant.valid

@@ -5,4 +5,5 @@ use Rattle.gh_draw.specs.Drawn.{HasValues}
 use Rattle.gh_draw.proofs.drawing.draw.Goals as goal
 
 pub returns-clause-values : goal.returns-clause-values
-returns-clause-values c = subst (λ (ss : List State). All HasValues ss) c.as_slice.ensures.value c.in_ok-push_states.ensures.values
+returns-clause-values c =
+    subst (λ (ss : List State). All HasValues ss) c.as_slice.ensures.value c.in_ok-push_states.ensures.values

@@ -8,6 +8,7 @@ use Rattle.gh_draw.proofs.drawing.push_heap.Given as goal
 
 abbrev pub invariant-loop-cell : goal.invariant-loop-cell
 invariant-loop-cell l = record {
-  text : l.out ++ flat_map cell_text (pairs (drop l.cell-index l.cell-items)) ≡ l.initial.out ++ flat_map cell_text (pairs l.cell-items);
+  text : l.out ++ flat_map cell_text (pairs (drop l.cell-index l.cell-items))
+      ≡ l.initial.out ++ flat_map cell_text (pairs l.cell-items);
   values : All (λ c. IsValue c.at × IsValue c.to) (take l.cell-index l.cell-items);
 }

@@ -6,6 +6,7 @@ use Rattle.gh_draw.proofs.drawing.push_store.Given as goal
 
 abbrev pub invariant-loop-entry : goal.invariant-loop-entry
 invariant-loop-entry l = record {
-  text : l.out ++ flat_map entry_text (drop l.entry-index l.entry-items) ≡ l.initial.out ++ flat_map entry_text l.entry-items;
+  text : l.out ++ flat_map entry_text (drop l.entry-index l.entry-items)
+      ≡ l.initial.out ++ flat_map entry_text l.entry-items;
   values : All (λ e. IsValue e.value) (take l.entry-index l.entry-items);
 }

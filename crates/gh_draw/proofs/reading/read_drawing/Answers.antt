@@ -10,15 +10,23 @@ returns-then-not-skip c = file_no_drawing (program_of c.args.typed.now) c.args.t
 
 pub returns-in_default : goal.returns-in_default
 returns-in_default c =
-    file_no_number (program_of c.args.typed.now) c.args.text.now c.skip.new.cursor.text.now c.read_number.new.cursor.text.now c.if-not-skip.ensures
-    (subst (λ o. IsFrontRead ShowsCondition c.skip.new.cursor.text.now c.read_number.new.cursor.text.now o) c.in_default.is c.read_number.ensures)
+    file_no_number (program_of c.args.typed.now) c.args.text.now c.skip.new.cursor.text.now
+    c.read_number.new.cursor.text.now c.if-not-skip.ensures
+    (subst (λ o. IsFrontRead ShowsCondition c.skip.new.cursor.text.now c.read_number.new.cursor.text.now o)
+    c.in_default.is c.read_number.ensures)
 
 pub returns-in_default-2 : goal.returns-in_default-2
 returns-in_default-2 c =
-    file_no_trace (program_of c.args.typed.now) c.args.text.now c.skip.new.cursor.text.now c.read_number.new.cursor.text.now c.in-Some.condition c.if-not-skip.ensures c.in-Some.ensures
-    (subst (λ o. IsOneOrNone (ShowsTrace (program_of c.args.typed.now) c.in-Some.condition c.read_number.new.cursor.text.now) (option_map (λ t. t.states.items) o)) c.in_default-2.is c.in_ok-trace.ensures)
+    file_no_trace (program_of c.args.typed.now) c.args.text.now c.skip.new.cursor.text.now
+    c.read_number.new.cursor.text.now c.in-Some.condition c.if-not-skip.ensures c.in-Some.ensures
+    (subst (λ o. IsOneOrNone (ShowsTrace (program_of c.args.typed.now) c.in-Some.condition
+    c.read_number.new.cursor.text.now) (option_map (λ t. t.states.items) o)) c.in_default-2.is
+    c.in_ok-trace.ensures)
 
 pub returns : goal.returns
 returns c =
-    file_whole (program_of c.args.typed.now) c.args.text.now c.skip.new.cursor.text.now c.read_number.new.cursor.text.now c.in-Some.condition c.in-Some-2.trace.states.items c.if-not-skip.ensures c.in-Some.ensures
-    (subst (λ o. IsOneOrNone (ShowsTrace (program_of c.args.typed.now) c.in-Some.condition c.read_number.new.cursor.text.now) (option_map (λ t. t.states.items) o)) c.in-Some-2.is c.in_ok-trace.ensures)
+    file_whole (program_of c.args.typed.now) c.args.text.now c.skip.new.cursor.text.now
+    c.read_number.new.cursor.text.now c.in-Some.condition c.in-Some-2.trace.states.items c.if-not-skip.ensures
+    c.in-Some.ensures
+    (subst (λ o. IsOneOrNone (ShowsTrace (program_of c.args.typed.now) c.in-Some.condition
+    c.read_number.new.cursor.text.now) (option_map (λ t. t.states.items) o)) c.in-Some-2.is c.in_ok-trace.ensures)

@@ -7,4 +7,5 @@ use Rattle.gh_entail.proofs.admit.first_undeclared.Given as goal
 
 abbrev pub invariant-loop-occurrence : goal.invariant-loop-occurrence
 invariant-loop-occurrence l =
-    (vs : List Occ) → IsTableOf (map (λ o. o.name) vs) l.names.places → IsFirstIn (λ b. UndeclaredErrors vs b.now) (take l.occurrence-index l.occurrences) l.first
+    (vs : List Occ) → IsTableOf (map (λ o. o.name) vs) l.names.places
+    → IsFirstIn (λ b. UndeclaredErrors vs b.now) (take l.occurrence-index l.occurrences) l.first

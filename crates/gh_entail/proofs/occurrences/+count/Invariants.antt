@@ -6,6 +6,7 @@ use Rattle.gh_entail.proofs.occurrences.+count.Given as goal
 
 abbrev pub invariant-count_in_claims-loop-claim : goal.invariant-count_in_claims-loop-claim
 invariant-count_in_claims-loop-claim l = record {
-  total : reported (l.sum + claims_atoms (claims_view (drop l.claim-index l.claims))) ≡ reported (claims_atoms (claims_view l.claims));
+  total : reported (l.sum + claims_atoms (claims_view (drop l.claim-index l.claims)))
+      ≡ reported (claims_atoms (claims_view l.claims));
   within : l.sum ≤ 4294967295;
 }

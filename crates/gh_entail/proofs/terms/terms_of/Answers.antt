@@ -11,7 +11,8 @@ encode-requires c =
     let ks = c.walk_claim-2.new.kinds in
     let es = c.walk_claim-2.new.scope in
     let all : state ks es 0 ≡ question_walked q =
-    walked_both q c.in_ok-kinds.kinds c.walk_claim.new.kinds ks c.new-scope.result c.walk_claim.new.scope es c.in_ok-kinds.ensures c.new-scope.ensures c.in_ok-walk_claim.ensures c.in_ok-walk_claim-2.ensures in
+    walked_both q c.in_ok-kinds.kinds c.walk_claim.new.kinds ks c.new-scope.result c.walk_claim.new.scope es
+    c.in_ok-kinds.ensures c.new-scope.ensures c.in_ok-walk_claim.ensures c.in_ok-walk_claim-2.ensures in
     let few : length ks ≤ 32 = omega (arith, c.if-count-gt-MOST_TERMS.false, c.count.ensures) in
     record { few = few; short = short_kinds q ks es all few }
 
@@ -21,7 +22,8 @@ returns c =
     let ks = c.walk_claim-2.new.kinds in
     let es = c.walk_claim-2.new.scope in
     let all : state ks es 0 ≡ question_walked q =
-    walked_both q c.in_ok-kinds.kinds c.walk_claim.new.kinds ks c.new-scope.result c.walk_claim.new.scope es c.in_ok-kinds.ensures c.new-scope.ensures c.in_ok-walk_claim.ensures c.in_ok-walk_claim-2.ensures in
+    walked_both q c.in_ok-kinds.kinds c.walk_claim.new.kinds ks c.new-scope.result c.walk_claim.new.scope es
+    c.in_ok-kinds.ensures c.new-scope.ensures c.in_ok-walk_claim.ensures c.in_ok-walk_claim-2.ensures in
     let few : length ks ≤ 32 = omega (arith, c.if-count-gt-MOST_TERMS.false, c.count.ensures) in (
       record {
         terms = c.in_ok-terms.ensures ∙ ap (λ s. s.kinds) all;

@@ -14,6 +14,8 @@ loop-class-preserved c =
     let old : Term = record { 0 = 0 } in
     let within : i < length ys = omega arith in
     let long : length ys ≡ length xs = omega arith in
-    let read : get_or ys i old ≡ get_or ys i (get_or ys i old) = sym (get_or_from_slice_get ys i (get_or ys i old) (get_or ys i old) (slice_get-get_or ys i old within)) in
+    let read : get_or ys i old ≡ get_or ys i (get_or ys i old) =
+    sym (get_or_from_slice_get ys i (get_or ys i old) (get_or ys i old) (slice_get-get_or ys i old within)) in
     ap (slice_set ys i) c.moved.ensures
-    ∙ map_over_more (moved c.args.old c.args.new) xs ys i (get_or ys i old) (omega (arith, within, long)) c.loop-class.invariant read
+    ∙ map_over_more (moved c.args.old c.args.new) xs ys i (get_or ys i old) (omega (arith, within, long))
+    c.loop-class.invariant read

@@ -15,6 +15,9 @@ loop-number-preserved c =
     let is = c.in_ok-push.ensures.ok in
     record {
       clauses = ap (map (line_clause p)) is ∙ clauses_more p old n (omega arith) c.loop-number.invariant.clauses;
-      of_kind = subst (AreOfKind p) (sym is) (kind_push p old (line.Clause n) c.loop-number.invariant.of_kind (omega arith));
-      version = subst (All (IsOfVersion 2)) (sym is) (All-push (IsOfVersion 2) old (line.Clause n) c.loop-number.invariant.version tt);
+      of_kind =
+          subst (AreOfKind p) (sym is) (kind_push p old (line.Clause n) c.loop-number.invariant.of_kind (omega arith));
+      version =
+          subst (All (IsOfVersion 2)) (sym is)
+          (All-push (IsOfVersion 2) old (line.Clause n) c.loop-number.invariant.version tt);
     }

@@ -15,13 +15,19 @@ loop-other-preserved c =
     let x : Term = c.args.x in
     let y : Term = record { 0 = i } in
     let kept = c.loop-other.invariant in
-    let wanted : c.class-class.result.0 ≡ class_at t.classes x.0 = c.class-class.ensures ∙ ap (λ (cs : List Term). class_at cs x.0) (sym kept.classes) in
+    let wanted : c.class-class.result.0 ≡ class_at t.classes x.0 =
+    c.class-class.ensures ∙ ap (λ (cs : List Term). class_at cs x.0) (sym kept.classes) in
     elim c.if-class.branch [
       | then-class w ↦
           let e : c.class.result.0 ≡ c.class-class.result.0 = let f = w.if-class.true in omega arith in
-          subst (λ (new : Tables). MakesTrue (IsOfFirst (i + 1) x (λ t. IsAtom (Alloc c.args.version t))) old new) (sym w.structure-is)
-          (up_to_one i x y (λ t. IsAtom (Alloc c.args.version t)) old t w.give.new.structure refl (sym c.class.ensures ∙ e ∙ wanted) w.give.ensures kept)
+          subst (λ (new : Tables). MakesTrue (IsOfFirst (i + 1) x (λ t. IsAtom (Alloc c.args.version t))) old new)
+          (sym w.structure-is)
+          (up_to_one i x y (λ t. IsAtom (Alloc c.args.version t)) old t w.give.new.structure refl
+          (sym c.class.ensures ∙ e ∙ wanted) w.give.ensures kept)
       | else-class w ↦
-          subst (λ (new : Tables). MakesTrue (IsOfFirst (i + 1) x (λ t. IsAtom (Alloc c.args.version t))) old new) (sym w.structure-is)
-          (up_to_other i x (λ t. IsAtom (Alloc c.args.version t)) old t (λ same. let e : c.class.result.0 ≡ c.class-class.result.0 = c.class.ensures ∙ same ∙ sym wanted in let f = w.if-class.false in f e) kept)
+          subst (λ (new : Tables). MakesTrue (IsOfFirst (i + 1) x (λ t. IsAtom (Alloc c.args.version t))) old new)
+          (sym w.structure-is)
+          (up_to_other i x (λ t. IsAtom (Alloc c.args.version t)) old t
+          (λ same. let e : c.class.result.0 ≡ c.class-class.result.0 = c.class.ensures ∙ same ∙ sym wanted in
+          let f = w.if-class.false in f e) kept)
     ]

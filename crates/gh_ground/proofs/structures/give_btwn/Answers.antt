@@ -15,15 +15,23 @@ loop-other-preserved c =
     let x : Term = c.args.x in
     let y : Term = record { 0 = i } in
     let kept = c.loop-other.invariant in
-    let wanted : c.class-class.result.0 ≡ class_at t.classes x.0 = c.class-class.ensures ∙ ap (λ (cs : List Term). class_at cs x.0) (sym kept.classes) in
+    let wanted : c.class-class.result.0 ≡ class_at t.classes x.0 =
+    c.class-class.ensures ∙ ap (λ (cs : List Term). class_at cs x.0) (sym kept.classes) in
     elim c.if-class.branch [
       | then-class w ↦
           let e : c.class.result.0 ≡ c.class-class.result.0 = let f = w.if-class.true in omega arith in
-          subst (λ (new : Tables). MakesTrue (IsOfFirst (i + 1) x (λ t. IsOfClass c.args.y (λ u. IsOfClass c.args.z (λ w. IsAtom (Btwn c.args.version t u w))))) old new) (sym w.structure-is)
-          (up_to_one i x y (λ t. IsOfClass c.args.y (λ u. IsOfClass c.args.z (λ w. IsAtom (Btwn c.args.version t u w)))) old t w.give_second.new.structure refl (sym c.class.ensures ∙ e ∙ wanted) w.give_second.ensures kept)
+          subst (λ (new : Tables). MakesTrue
+          (IsOfFirst (i + 1) x (λ t. IsOfClass c.args.y
+          (λ u. IsOfClass c.args.z (λ w. IsAtom (Btwn c.args.version t u w))))) old new) (sym w.structure-is)
+          (up_to_one i x y (λ t. IsOfClass c.args.y (λ u. IsOfClass c.args.z (λ w. IsAtom (Btwn c.args.version t u w))))
+          old t w.give_second.new.structure refl (sym c.class.ensures ∙ e ∙ wanted) w.give_second.ensures kept)
       | else-class w ↦
-          subst (λ (new : Tables). MakesTrue (IsOfFirst (i + 1) x (λ t. IsOfClass c.args.y (λ u. IsOfClass c.args.z (λ w. IsAtom (Btwn c.args.version t u w))))) old new) (sym w.structure-is)
-          (up_to_other i x (λ t. IsOfClass c.args.y (λ u. IsOfClass c.args.z (λ w. IsAtom (Btwn c.args.version t u w)))) old t (λ same. let e : c.class.result.0 ≡ c.class-class.result.0 = c.class.ensures ∙ same ∙ sym wanted in let f = w.if-class.false in f e) kept)
+          subst (λ (new : Tables). MakesTrue
+          (IsOfFirst (i + 1) x (λ t. IsOfClass c.args.y
+          (λ u. IsOfClass c.args.z (λ w. IsAtom (Btwn c.args.version t u w))))) old new) (sym w.structure-is)
+          (up_to_other i x (λ t. IsOfClass c.args.y (λ u. IsOfClass c.args.z (λ w. IsAtom (Btwn c.args.version t u w))))
+          old t (λ same. let e : c.class.result.0 ≡ c.class-class.result.0 = c.class.ensures ∙ same ∙ sym wanted in
+          let f = w.if-class.false in f e) kept)
     ]
 
 pub returns : goal.returns
@@ -31,4 +39,6 @@ returns c =
     let f = c.loop-other-test.false in
     let e = c.terms-other-end.ensures in
     let end : c.loop-other.other ≡ c.args.structure.now.sizes.terms = omega arith in
-    up_to_all c.loop-other.other c.args.x (λ t. IsOfClass c.args.y (λ u. IsOfClass c.args.z (λ w. IsAtom (Btwn c.args.version t u w)))) c.args.structure.now c.loop-other.structure end c.loop-other.invariant
+    up_to_all c.loop-other.other c.args.x
+    (λ t. IsOfClass c.args.y (λ u. IsOfClass c.args.z (λ w. IsAtom (Btwn c.args.version t u w))))
+    c.args.structure.now c.loop-other.structure end c.loop-other.invariant

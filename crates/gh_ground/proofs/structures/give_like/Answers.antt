@@ -7,7 +7,8 @@ use Rattle.gh_ground.proofs.structures.give_like.Goals as goal
 pub returns-in-Btwn : goal.returns-in-Btwn
 returns-in-Btwn c =
     subst (λ (a : Atom). MakesTrue (IsLike a) c.args.structure.now c.give_btwn.new.structure) (sym c.in-Btwn.is)
-    (like_btwn c.in-Btwn.version c.in-Btwn.x c.in-Btwn.y c.in-Btwn.z c.args.structure.now c.give_btwn.new.structure c.give_btwn.ensures)
+    (like_btwn c.in-Btwn.version c.in-Btwn.x c.in-Btwn.y c.in-Btwn.z c.args.structure.now c.give_btwn.new.structure
+    c.give_btwn.ensures)
 
 pub returns-in-Hop : goal.returns-in-Hop
 returns-in-Hop c =

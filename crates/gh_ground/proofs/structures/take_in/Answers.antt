@@ -12,7 +12,10 @@ returns-then-not-is_relation-clause-given c = λ lits h.
     given_equality lits c.args.lit c.args.structure.now (λ r. let f = c.is_relation.ensures.1 r in cc) h
 
 pub returns-then-holds-clause-given : goal.returns-then-holds-clause-given
-returns-then-holds-clause-given c = λ lits h. given_already lits c.args.lit c.args.structure.now c.requires (sym c.holds.ensures ∙ c.if-holds.true) h
+returns-then-holds-clause-given c =
+    λ lits h. given_already lits c.args.lit c.args.structure.now c.requires (sym c.holds.ensures ∙ c.if-holds.true) h
 
 pub returns-clause-given : goal.returns-clause-given
-returns-clause-given c = λ lits h. given_more lits c.args.lit c.args.structure.now c.give_like.new.structure (positive_of c.args.lit.positive c.if-not-lit.false) c.give_like.ensures h
+returns-clause-given c =
+    λ lits h. given_more lits c.args.lit c.args.structure.now c.give_like.new.structure
+    (positive_of c.args.lit.positive c.if-not-lit.false) c.give_like.ensures h

@@ -15,8 +15,12 @@ loop-place-preserved c =
     let up : c.loop-place.place ≡ (c.loop-place.place - 1) + 1 = omega arith in
     record {
       within = omega arith;
-      needed = needed_step lines old c.keep_hints.new.kept.items (c.loop-place.place - 1) l e.long e.keeps e.later e.hints e.only e.needed at (subst (AreNeeded lines old) up i.needed);
+      needed =
+          needed_step lines old c.keep_hints.new.kept.items (c.loop-place.place - 1) l e.long e.keeps e.later e.hints
+          e.only e.needed at (subst (AreNeeded lines old) up i.needed);
     }
 
 pub returns : goal.returns
-returns c = needed_whole c.args.lines.now c.loop-place.kept.items c.loop-place.place c.loop-place-test.false c.loop-place.invariant.needed
+returns c =
+    needed_whole c.args.lines.now c.loop-place.kept.items c.loop-place.place c.loop-place-test.false
+    c.loop-place.invariant.needed

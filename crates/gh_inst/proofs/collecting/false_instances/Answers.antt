@@ -13,8 +13,12 @@ loop-version-preserved c =
     let k = c.loop-version.version in
     let e = c.in_ok-gather_version.ensures in
     record {
-      gathers = version_next s.sizes m [] c.loop-version.found.items c.gather_version.new.found.items k c.loop-version.invariant.gathers e.gathers;
-      named = named_versions s.sizes m k (VersionHolds s.sizes m k) c.loop-version.found.items c.gather_version.new.found.items e.gathers c.loop-version.invariant.named e.named;
+      gathers =
+          version_next s.sizes m [] c.loop-version.found.items c.gather_version.new.found.items k
+          c.loop-version.invariant.gathers e.gathers;
+      named =
+          named_versions s.sizes m k (VersionHolds s.sizes m k) c.loop-version.found.items
+          c.gather_version.new.found.items e.gathers c.loop-version.invariant.named e.named;
       up = e.up c.loop-version.invariant.up;
     }
 
@@ -24,13 +28,16 @@ returns-clause-named c = λ version below. c.loop-version.invariant.named versio
 pub returns-clause-first : goal.returns-clause-first
 returns-clause-first c =
     let s = c.args.structure.now in
-    first_named s.sizes (interpretation_of s) c.loop-version.found.items (λ version below. c.loop-version.invariant.named version (omega (arith, below)))
+    first_named s.sizes (interpretation_of s) c.loop-version.found.items
+    (λ version below. c.loop-version.invariant.named version (omega (arith, below)))
 
 pub returns-clause-none : goal.returns-clause-none
 returns-clause-none c = λ e.
     let s = c.args.structure.now in
     versions_hold s.sizes (interpretation_of s)
-    (λ v below. c.loop-version.invariant.gathers.none (sym c.loop-version.invariant.gathers.added ∙ e) v (omega (arith, below)))
+    (λ v below. c.loop-version.invariant.gathers.none (sym c.loop-version.invariant.gathers.added ∙ e) v
+    (omega (arith, below)))
 
 pub returns-clause-once : goal.returns-clause-once
-returns-clause-once c = up_distinct (place c.loop-version.version 0 0 0) c.loop-version.found.items c.loop-version.invariant.up
+returns-clause-once c =
+    up_distinct (place c.loop-version.version 0 0 0) c.loop-version.found.items c.loop-version.invariant.up

@@ -12,10 +12,13 @@ returns-in_ok-gather-clause-gathers c = λ r e.
     let a = c.args in
     let s = a.structure.now.sizes in
     let m = interpretation_of a.structure.now in
-    let found : row_with a.number table ≡ Some (row_of a.number c.in-Some.row) = c.row_numbered.ensures ∙ ap (option_map (row_of a.number)) c.in-Some.is in
+    let found : row_with a.number table ≡ Some (row_of a.number c.in-Some.row) =
+    c.row_numbered.ensures ∙ ap (option_map (row_of a.number)) c.in-Some.is in
     let is : row_of a.number c.in-Some.row ≡ r = some_same _ _ (sym found ∙ e) in
     subst (λ (q : AxiomRow). Gathers s m a.found.now.items c.gather.new.found.items (RowHolds s m a.version q)) is
-    (row_added s m a.found.now.items c.gather.new.found.items a.version c.variables.result c.lits.result.now (row_of a.number c.in-Some.row) found (sym c.variables.ensures) (sym c.lits.ensures.list) c.in_ok-gather.ensures.gathers.gathers)
+    (row_added s m a.found.now.items c.gather.new.found.items a.version c.variables.result c.lits.result.now
+    (row_of a.number c.in-Some.row) found (sym c.variables.ensures) (sym c.lits.ensures.list)
+    c.in_ok-gather.ensures.gathers.gathers)
 
 pub returns-in_ok-gather-clause-named : goal.returns-in_ok-gather-clause-named
 returns-in_ok-gather-clause-named c = λ r e.
@@ -23,7 +26,9 @@ returns-in_ok-gather-clause-named c = λ r e.
     let s = a.structure.now.sizes in
     let m = interpretation_of a.structure.now in
     let q : AxiomRow = row_of a.number c.in-Some.row in
-    let found : row_with a.number table ≡ Some q = c.row_numbered.ensures ∙ ap (option_map (row_of a.number)) c.in-Some.is in
+    let found : row_with a.number table ≡ Some q =
+    c.row_numbered.ensures ∙ ap (option_map (row_of a.number)) c.in-Some.is in
     let is : q ≡ r = some_same _ _ (sym found ∙ e) in
     subst (IsNamed s m a.version c.gather.new.found.items) is
-    (named_row _ a.found.now.items c.gather.new.found.items c.in_ok-gather.ensures.gathers q found refl (sym c.variables.ensures) (sym c.lits.ensures.list))
+    (named_row _ a.found.now.items c.gather.new.found.items c.in_ok-gather.ensures.gathers q found refl
+    (sym c.variables.ensures) (sym c.lits.ensures.list))

@@ -11,4 +11,5 @@ pub returns : goal.returns
 returns c = λ y there few bit.
     let r = c.args.row.now in
     let s = r.structure.now in
-    (skipped_block (interpretation_of s) r.version (r.variables - 2) s.sizes.terms r.lits.now _ 1 c.open_terms.result y c.open_terms.ensures (omega arith) there bit).comes
+    (skipped_block (interpretation_of s) r.version (r.variables - 2) s.sizes.terms r.lits.now _ 1 c.open_terms.result y
+    c.open_terms.ensures (omega arith) there bit).comes

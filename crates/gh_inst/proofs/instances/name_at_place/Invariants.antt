@@ -7,4 +7,5 @@ use Rattle.gh_inst.proofs.instances.name_at_place.Given as goal
 
 abbrev pub invariant-loop-row : goal.invariant-loop-row
 invariant-loop-row l =
-    slice_get (flat_map (row_instances l.terms l.versions) (drop (l.row - 1) table)) l.rest ≡ slice_get (instances l.terms l.versions) l.place
+    slice_get (flat_map (row_instances l.terms l.versions) (drop (l.row - 1) table)) l.rest
+    ≡ slice_get (instances l.terms l.versions) l.place

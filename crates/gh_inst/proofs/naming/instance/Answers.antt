@@ -11,7 +11,9 @@ there c =
     let few : c.args.name.arity ≤ 4 = search rules in
     let past = drop c.args.name.arity c.args.name.terms in
     let zero_there : All (λ t. t.0 ≡ 0) past =
-    subst (All (λ t. t.0 ≡ 0)) (take_all (length c.args.name.terms - c.args.name.arity) past (omega (arith, length-drop c.args.name.arity c.args.name.terms))) (c.are_zero.ensures.0 search) in
+    subst (All (λ t. t.0 ≡ 0))
+    (take_all (length c.args.name.terms - c.args.name.arity) past
+    (omega (arith, length-drop c.args.name.arity c.args.name.terms))) (c.are_zero.ensures.0 search) in
     let padded : IsPadded c.args.name = padded_by c.args.name four few zero_there in
     record { row = search rules; version = search rules; terms = search rules; padded = padded }
 

@@ -13,32 +13,45 @@ loop-name-init c =
     let s = c.args.structure.now in
     let P : InstanceName → Type 0 = IsInstanceTrue (interpretation_of s) in
     let all : c.into_iter-name-iterator.result ≡ instances s.sizes.terms s.sizes.versions = search rules in
-    subst (HasLeft P (instances s.sizes.terms s.sizes.versions)) (sym all) (left_at_first P (instances s.sizes.terms s.sizes.versions))
+    subst (HasLeft P (instances s.sizes.terms s.sizes.versions)) (sym all)
+    (left_at_first P (instances s.sizes.terms s.sizes.versions))
 
 pub is_instance_true-requires : goal.is_instance_true-requires
 is_instance_true-requires c =
     let s = c.args.structure.now in
-    left_instance (IsInstanceTrue (interpretation_of s)) s.sizes.terms s.sizes.versions c.next.new.self c.in-Some.name (subst (HasLeft (IsInstanceTrue (interpretation_of s)) (instances s.sizes.terms s.sizes.versions)) (c.in-Some.ensures {u = tt}).steps c.loop-name.invariant)
+    left_instance (IsInstanceTrue (interpretation_of s)) s.sizes.terms s.sizes.versions c.next.new.self c.in-Some.name
+    (subst (HasLeft (IsInstanceTrue (interpretation_of s)) (instances s.sizes.terms s.sizes.versions))
+    (c.in-Some.ensures {u = tt}).steps c.loop-name.invariant)
 
-found_there : (c : goal.Then-not-is_instance_true) → IsSearched (IsInstanceTrue (interpretation_of c.args.structure.now)) (instances c.args.structure.now.sizes.terms c.args.structure.now.sizes.versions) (Some c.in-Some.name)
+found_there : (c : goal.Then-not-is_instance_true)
+    → IsSearched (IsInstanceTrue (interpretation_of c.args.structure.now))
+    (instances c.args.structure.now.sizes.terms c.args.structure.now.sizes.versions) (Some c.in-Some.name)
 found_there c =
     let s = c.args.structure.now in
-    left_found (IsInstanceTrue (interpretation_of s)) (instances s.sizes.terms s.sizes.versions) c.next.new.self c.in-Some.name (subst (HasLeft (IsInstanceTrue (interpretation_of s)) (instances s.sizes.terms s.sizes.versions)) (c.in-Some.ensures {u = tt}).steps c.loop-name.invariant) (c.if-not-is_instance_true.ensures)
+    left_found (IsInstanceTrue (interpretation_of s)) (instances s.sizes.terms s.sizes.versions) c.next.new.self
+    c.in-Some.name (subst (HasLeft (IsInstanceTrue (interpretation_of s))
+    (instances s.sizes.terms s.sizes.versions)) (c.in-Some.ensures {u = tt}).steps c.loop-name.invariant)
+    (c.if-not-is_instance_true.ensures)
 
 pub returns-then-not-is_instance_true-clause-first : goal.returns-then-not-is_instance_true-clause-first
 returns-then-not-is_instance_true-clause-first c =
     let s = c.args.structure.now in
-    first_found (IsInstanceTrue (interpretation_of s)) (instances s.sizes.terms s.sizes.versions) (Some c.in-Some.name) (found_there c)
+    first_found (IsInstanceTrue (interpretation_of s)) (instances s.sizes.terms s.sizes.versions) (Some c.in-Some.name)
+    (found_there c)
 
 pub returns-then-not-is_instance_true-clause-none : goal.returns-then-not-is_instance_true-clause-none
 returns-then-not-is_instance_true-clause-none c =
     let s = c.args.structure.now in
-    none_found (IsInstanceTrue (interpretation_of s)) (instances s.sizes.terms s.sizes.versions) (Some c.in-Some.name) (found_there c)
+    none_found (IsInstanceTrue (interpretation_of s)) (instances s.sizes.terms s.sizes.versions) (Some c.in-Some.name)
+    (found_there c)
 
 pub loop-name-preserved : goal.loop-name-preserved
 loop-name-preserved c =
     let s = c.args.structure.now in
-    left_next (IsInstanceTrue (interpretation_of s)) (instances s.sizes.terms s.sizes.versions) c.next.new.self c.in-Some.name (subst (HasLeft (IsInstanceTrue (interpretation_of s)) (instances s.sizes.terms s.sizes.versions)) (c.in-Some.ensures {u = tt}).steps c.loop-name.invariant) (c.if-not-is_instance_true.ensures)
+    left_next (IsInstanceTrue (interpretation_of s)) (instances s.sizes.terms s.sizes.versions) c.next.new.self
+    c.in-Some.name (subst (HasLeft (IsInstanceTrue (interpretation_of s))
+    (instances s.sizes.terms s.sizes.versions)) (c.in-Some.ensures {u = tt}).steps c.loop-name.invariant)
+    (c.if-not-is_instance_true.ensures)
 
 pub returns-clause-none : goal.returns-clause-none
 returns-clause-none c =
@@ -46,4 +59,5 @@ returns-clause-none c =
     let empty : c.loop-name.name-iterator ≡ [] = search rules in
     none_found (IsInstanceTrue (interpretation_of s)) (instances s.sizes.terms s.sizes.versions) None
     (left_none (IsInstanceTrue (interpretation_of s)) (instances s.sizes.terms s.sizes.versions)
-    (subst (HasLeft (IsInstanceTrue (interpretation_of s)) (instances s.sizes.terms s.sizes.versions)) empty c.loop-name.invariant))
+    (subst (HasLeft (IsInstanceTrue (interpretation_of s)) (instances s.sizes.terms s.sizes.versions)) empty
+    c.loop-name.invariant))

@@ -6,4 +6,5 @@ use Rattle.gh_inst.proofs.violation.violated_plainly.Given as goal
 
 abbrev pub invariant-loop-name : goal.invariant-loop-name
 invariant-loop-name l =
-    HasLeft (IsInstanceTrue (interpretation_of l.structure)) (instances l.structure.sizes.terms l.structure.sizes.versions) l.name-iterator
+    HasLeft (IsInstanceTrue (interpretation_of l.structure))
+    (instances l.structure.sizes.terms l.structure.sizes.versions) l.name-iterator

@@ -24,9 +24,12 @@ returns-then-terms-eq0 c =
     let m = interpretation_of a.worded.now.structure.now in
     record {
       closed = λ z rest below later end bit.
-          elim (and_zero c.loop-pattern.terms c.next_terms-terms.result z (ap (λ w. bit_at w z) c.if-terms-eq0.true ∙ bit_at-zero z)) as (λ _. IsRowTrue m a.worded.now.version a.lits.now (take a.first a.tuple.now ++ rest)) [
+          elim (and_zero c.loop-pattern.terms c.next_terms-terms.result z
+          (ap (λ w. bit_at w z) c.if-terms-eq0.true ∙ bit_at-zero z)) as
+          (λ _. IsRowTrue m a.worded.now.version a.lits.now (take a.first a.tuple.now ++ rest)) [
             | inl before ↦ c.loop-pattern.invariant.closed z rest below later end before
-            | inr here ↦ true_at m a.worded.now.version (take a.first a.tuple.now ++ rest) a.lits.now c.loop-pattern.pattern-index _ (got a.lits.now c.loop-pattern.pattern-index _ (omega arith))
+            | inr here ↦ true_at m a.worded.now.version (take a.first a.tuple.now ++ rest) a.lits.now
+                c.loop-pattern.pattern-index _ (got a.lits.now c.loop-pattern.pattern-index _ (omega arith))
                 (c.next_terms-terms.ensures.closed z rest below later end here)
           ];
       known = λ some. absurd (some refl);
@@ -38,20 +41,27 @@ loop-pattern-preserved c =
     let m = interpretation_of a.worded.now.structure.now in
     record {
       closed = λ z rest below later end bit.
-          elim (and_zero c.loop-pattern.terms c.next_terms-terms.result z bit) as (λ _. IsRowTrue m a.worded.now.version a.lits.now (take a.first a.tuple.now ++ rest)) [
+          elim (and_zero c.loop-pattern.terms c.next_terms-terms.result z bit) as
+          (λ _. IsRowTrue m a.worded.now.version a.lits.now (take a.first a.tuple.now ++ rest)) [
             | inl before ↦ c.loop-pattern.invariant.closed z rest below later end before
-            | inr here ↦ true_at m a.worded.now.version (take a.first a.tuple.now ++ rest) a.lits.now c.loop-pattern.pattern-index _ (got a.lits.now c.loop-pattern.pattern-index _ (omega arith))
+            | inr here ↦ true_at m a.worded.now.version (take a.first a.tuple.now ++ rest) a.lits.now
+                c.loop-pattern.pattern-index _ (got a.lits.now c.loop-pattern.pattern-index _ (omega arith))
                 (c.next_terms-terms.ensures.closed z rest below later end here)
           ];
-      known = All-more (λ p. IsAmong a.first p → ¬ IsLitTrue m (lit_over a.worded.now.version (take a.first a.tuple.now) p)) a.lits.now c.loop-pattern.pattern-index _ (omega arith) c.loop-pattern.invariant.known
-          (c.next_terms-terms.ensures.known (λ e. c.if-terms-eq0.false (ap (bit_and c.loop-pattern.terms) e ∙ and_zero_r c.loop-pattern.terms)));
+      known = All-more (λ p. IsAmong a.first p
+          → ¬ IsLitTrue m (lit_over a.worded.now.version (take a.first a.tuple.now) p)) a.lits.now
+          c.loop-pattern.pattern-index _ (omega arith) c.loop-pattern.invariant.known
+          (c.next_terms-terms.ensures.known
+          (λ e. c.if-terms-eq0.false (ap (bit_and c.loop-pattern.terms) e ∙ and_zero_r c.loop-pattern.terms)));
     }
 
 pub returns : goal.returns
 returns c =
     let a = c.args in
     let m = interpretation_of a.worded.now.structure.now in
-    let all = subst (All (λ p. IsAmong a.first p → ¬ IsLitTrue m (lit_over a.worded.now.version (take a.first a.tuple.now) p))) (take_all c.loop-pattern.pattern-index a.lits.now (omega arith)) c.loop-pattern.invariant.known in
+    let all = subst (All (λ p. IsAmong a.first p
+    → ¬ IsLitTrue m (lit_over a.worded.now.version (take a.first a.tuple.now) p)))
+    (take_all c.loop-pattern.pattern-index a.lits.now (omega arith)) c.loop-pattern.invariant.known in
     record {
       closed = c.loop-pattern.invariant.closed;
       known = λ some among. none_true m a.worded.now.version a.first (take a.first a.tuple.now) a.lits.now all among;

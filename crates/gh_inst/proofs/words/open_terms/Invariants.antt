@@ -11,7 +11,12 @@ use Rattle.gh_inst.proofs.words.open_terms.Given as goal
 
 abbrev pub invariant-loop-pattern : goal.invariant-loop-pattern
 invariant-loop-pattern l = record {
-  closed : (z : ℕ) (rest : List Term) → z < l.worded.structure.now.sizes.terms → All (λ t. t.0 < l.worded.structure.now.sizes.terms) rest → slice_index_or (take l.first l.tuple ++ rest) l.first (term 0) ≡ term z
-      → bit_at l.terms z ≡ 0 → IsRowTrue (interpretation_of l.worded.structure.now) l.worded.version l.lits (take l.first l.tuple ++ rest);
-  known : All (λ p. IsAmong l.first p → ¬ IsLitTrue (interpretation_of l.worded.structure.now) (lit_over l.worded.version (take l.first l.tuple) p)) (take l.pattern-index l.lits);
+  closed : (z : ℕ) (rest : List Term) → z < l.worded.structure.now.sizes.terms
+      → All (λ t. t.0 < l.worded.structure.now.sizes.terms) rest
+      → slice_index_or (take l.first l.tuple ++ rest) l.first (term 0) ≡ term z
+      → bit_at l.terms z ≡ 0 → IsRowTrue (interpretation_of l.worded.structure.now) l.worded.version l.lits
+      (take l.first l.tuple ++ rest);
+  known : All (λ p. IsAmong l.first p
+      → ¬ IsLitTrue (interpretation_of l.worded.structure.now) (lit_over l.worded.version (take l.first l.tuple) p))
+      (take l.pattern-index l.lits);
 }

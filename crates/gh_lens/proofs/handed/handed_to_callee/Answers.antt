@@ -8,7 +8,8 @@ use Rattle.gh_lens.proofs.Handing.{call_hands, stands_there, with_both}
 use Rattle.gh_lens.proofs.handed.handed_to_callee.Goals as goal
 
 pub unreachable-requires : goal.unreachable-requires
-unreachable-requires c = stands_there (program_of c.args.setting.typed.now).procedures c.args.callee c.requires c.in_default.ensures.none
+unreachable-requires c =
+    stands_there (program_of c.args.setting.typed.now).procedures c.args.callee c.requires c.in_default.ensures.none
 
 pub returns-in_default-2 : goal.returns-in_default-2
 returns-in_default-2 c xs e (r, vs, is, give, ex) =

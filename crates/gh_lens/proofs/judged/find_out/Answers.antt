@@ -5,5 +5,6 @@ use Rattle.gh_lens.proofs.judged.find_out.Goals as goal
 
 pub returns : goal.returns
 returns c =
-    let told : IsVerdict (program_of c.args.typed.now) c.args.condition.now (Refuted c.in-Refuted.field-0) = rw c.in-Refuted.is at c.in_ok-decide_with.ensures in
+    let told : IsVerdict (program_of c.args.typed.now) c.args.condition.now (Refuted c.in-Refuted.field-0) =
+    rw c.in-Refuted.is at c.in_ok-decide_with.ensures in
     (c.in-Refuted.field-0, told)

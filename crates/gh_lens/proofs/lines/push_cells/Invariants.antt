@@ -4,4 +4,5 @@ use Rattle.gh_lens.specs.Lines.{cell_line}
 use Rattle.gh_lens.proofs.lines.push_cells.Given as goal
 
 abbrev pub invariant-loop-change : goal.invariant-loop-change
-invariant-loop-change l = l.text ++ (flat_map cell_line (drop l.change-index l.changes)) ≡ l.initial.text ++ (flat_map cell_line l.changes)
+invariant-loop-change l =
+    l.text ++ (flat_map cell_line (drop l.change-index l.changes)) ≡ l.initial.text ++ (flat_map cell_line l.changes)

@@ -10,7 +10,10 @@ pub returns : goal.returns
 returns c =
     let old = c.args.text.now in
     let e = c.args.exchange.now in
-    three old (line (codes "  handed over:" ++ numbers_text e.handed.items)) (line (codes "  left aside:" ++ numbers_text (keys e.frame))) (line (codes "  came back:" ++ numbers_text (keys e.back)))
+    three old (line (codes "  handed over:" ++ numbers_text e.handed.items))
+    (line (codes "  left aside:" ++ numbers_text (keys e.frame)))
+    (line (codes "  came back:" ++ numbers_text (keys e.back)))
     c.push_numbers_line.new.text c.push_heap_line.new.text c.push_heap_line-2.new.text
-    (c.in_ok-push_numbers_line.ensures ∙ ap (λ ns. old ++ line (codes "  handed over:" ++ numbers_text ns)) c.as_slice.ensures.value)
+    (c.in_ok-push_numbers_line.ensures
+    ∙ ap (λ ns. old ++ line (codes "  handed over:" ++ numbers_text ns)) c.as_slice.ensures.value)
     c.in_ok-push_heap_line.ensures c.in_ok-push_heap_line-2.ensures

@@ -3,4 +3,5 @@ use Rattle.gh_log.specs.Texts.{numbers_text}
 use Rattle.gh_lens.proofs.lines.push_numbers.Given as goal
 
 abbrev pub invariant-loop-number : goal.invariant-loop-number
-invariant-loop-number l = l.text ++ (numbers_text (drop l.number-index l.numbers)) ≡ l.initial.text ++ (numbers_text l.numbers)
+invariant-loop-number l =
+    l.text ++ (numbers_text (drop l.number-index l.numbers)) ≡ l.initial.text ++ (numbers_text l.numbers)

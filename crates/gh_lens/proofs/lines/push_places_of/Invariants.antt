@@ -4,4 +4,5 @@ use Rattle.gh_lens.specs.Lines.{places_text}
 use Rattle.gh_lens.proofs.lines.push_places_of.Given as goal
 
 abbrev pub invariant-loop-cell : goal.invariant-loop-cell
-invariant-loop-cell l = l.text ++ places_text (pairs (drop l.cell-index l.cells)) ≡ l.initial.text ++ places_text (pairs l.cells)
+invariant-loop-cell l =
+    l.text ++ places_text (pairs (drop l.cell-index l.cells)) ≡ l.initial.text ++ places_text (pairs l.cells)

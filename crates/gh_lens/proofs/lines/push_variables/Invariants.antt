@@ -4,4 +4,6 @@ use Rattle.gh_lens.specs.Lines.{variable_line}
 use Rattle.gh_lens.proofs.lines.push_variables.Given as goal
 
 abbrev pub invariant-loop-change : goal.invariant-loop-change
-invariant-loop-change l = l.text ++ (flat_map variable_line (drop l.change-index l.changes)) ≡ l.initial.text ++ (flat_map variable_line l.changes)
+invariant-loop-change l =
+    l.text ++ (flat_map variable_line (drop l.change-index l.changes))
+    ≡ l.initial.text ++ (flat_map variable_line l.changes)

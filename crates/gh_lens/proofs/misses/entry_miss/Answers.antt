@@ -9,7 +9,8 @@ use Rattle.gh_lens.proofs.misses.entry_miss.Goals as goal
 
 pub returns-in_default : goal.returns-in_default
 returns-in_default c =
-    no_callee (program_of c.args.setting.typed.now) c.args.callee c.args.arguments.now (state_of c.args.state.now) c.in_default.ensures.none
+    no_callee (program_of c.args.setting.typed.now) c.args.callee c.args.arguments.now (state_of c.args.state.now)
+    c.in_default.ensures.none
 
 pub returns-in_default-2 : goal.returns-in_default-2
 returns-in_default-2 c proc at fails =
@@ -18,7 +19,8 @@ returns-in_default-2 c proc at fails =
     let x = state_of c.args.state.now in
     let es = c.args.arguments.now in
     let none : IsNeverEntered q es x = subst (IsEnteredOr q es x) c.in_default-2.is c.in_ok-inside.ensures in
-    fails (λ r vs inside is give params. absurd (never_entered P c.args.callee q r es x vs inside c.in-Some.ensures.some none is give params))
+    fails (λ r vs inside is give params. absurd
+    (never_entered P c.args.callee q r es x vs inside c.in-Some.ensures.some none is give params))
 
 pub returns : goal.returns
 returns c proc at =

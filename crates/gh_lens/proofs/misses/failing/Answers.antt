@@ -12,7 +12,9 @@ returns-in-CalleeEntry c =
     let proc = procedure_of c.args.setting.procedure.now in
     let x = state_of c.args.state.now in
     IfOk-weaker c.entry_miss.result _ (IsFailingOr P proc c.args.kind.now x)
-    (λ o is. subst (λ m. IsFailingOr P proc m x o) (sym c.in-CalleeEntry.is) (callee_or P proc c.in-CalleeEntry.callee c.in-CalleeEntry.arguments c.as_slice.result.now x o c.as_slice.ensures.value is)) c.entry_miss.ensures
+    (λ o is. subst (λ m. IsFailingOr P proc m x o) (sym c.in-CalleeEntry.is)
+    (callee_or P proc c.in-CalleeEntry.callee c.in-CalleeEntry.arguments c.as_slice.result.now x o
+    c.as_slice.ensures.value is)) c.entry_miss.ensures
 
 pub returns-in-LoopEntry : goal.returns-in-LoopEntry
 returns-in-LoopEntry c =
@@ -20,7 +22,8 @@ returns-in-LoopEntry c =
     let proc = procedure_of c.args.setting.procedure.now in
     let x = state_of c.args.state.now in
     IfOk-weaker c.invariant_miss.result _ (IsFailingOr P proc c.args.kind.now x)
-    (λ o is. subst (λ m. IsFailingOr P proc m x o) (sym c.in-LoopEntry.is) (loop_entry_or P proc c.in-LoopEntry.number x o is)) c.invariant_miss.ensures
+    (λ o is. subst (λ m. IsFailingOr P proc m x o) (sym c.in-LoopEntry.is)
+    (loop_entry_or P proc c.in-LoopEntry.number x o is)) c.invariant_miss.ensures
 
 pub returns-in-LoopEnd : goal.returns-in-LoopEnd
 returns-in-LoopEnd c =
@@ -28,4 +31,5 @@ returns-in-LoopEnd c =
     let proc = procedure_of c.args.setting.procedure.now in
     let x = state_of c.args.state.now in
     IfOk-weaker c.invariant_miss-in-LoopEnd.result _ (IsFailingOr P proc c.args.kind.now x)
-    (λ o is. subst (λ m. IsFailingOr P proc m x o) (sym c.in-LoopEnd.is) (loop_end_or P proc c.in-LoopEnd.number x o is)) c.invariant_miss-in-LoopEnd.ensures
+    (λ o is. subst (λ m. IsFailingOr P proc m x o) (sym c.in-LoopEnd.is)
+    (loop_end_or P proc c.in-LoopEnd.number x o is)) c.invariant_miss-in-LoopEnd.ensures

@@ -6,4 +6,7 @@ use Rattle.gh_lens.specs.Stated.{subject_of}
 use Rattle.gh_lens.proofs.remarks.all_stated.Given as goal
 
 abbrev pub invariant-loop-round : goal.invariant-loop-round
-invariant-loop-round l = map subject_of l.all.items ++ map (invariant_of (procedure_of l.procedure)) (map loop_of (drop l.round-index l.round-items)) ≡ subjects_of (procedure_of l.procedure)
+invariant-loop-round l =
+    map subject_of l.all.items
+    ++ map (invariant_of (procedure_of l.procedure)) (map loop_of (drop l.round-index l.round-items))
+    ≡ subjects_of (procedure_of l.procedure)

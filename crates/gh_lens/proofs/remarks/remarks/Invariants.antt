@@ -5,4 +5,5 @@ use Rattle.gh_lens.specs.Assertions.{subjects_of, AreRemarks}
 use Rattle.gh_lens.proofs.remarks.remarks.Given as goal
 
 abbrev pub invariant-loop-procedure : goal.invariant-loop-procedure
-invariant-loop-procedure l = AreRemarks (flat_map subjects_of (map procedure_of (take l.procedure-index l.procedure-items))) l.all.items
+invariant-loop-procedure l =
+    AreRemarks (flat_map subjects_of (map procedure_of (take l.procedure-index l.procedure-items))) l.all.items

@@ -11,9 +11,11 @@ returns-in-Some c =
     let xs = names c.args.targets.now in
     let es = c.args.arguments.now in
     on_ok_weaker c.push_call_of.result
-    (λ added. added ∙ ap (λ f. old ++ call_text xs f es) c.bytes.ensures.text ∙ ap (λ q. old ++ called_text q xs es) (sym c.in-Some.ensures.some)) c.push_call_of.ensures
+    (λ added. added ∙ ap (λ f. old ++ call_text xs f es) c.bytes.ensures.text
+    ∙ ap (λ q. old ++ called_text q xs es) (sym c.in-Some.ensures.some)) c.push_call_of.ensures
 
 pub returns-in-None : goal.returns-in-None
 returns-in-None c =
     let old = c.args.text.now in
-    sym (append-nil old) ∙ ap (λ q. old ++ called_text q (names c.args.targets.now) c.args.arguments.now) (sym c.in-None.ensures.none)
+    sym (append-nil old) ∙ ap (λ q. old ++ called_text q (names c.args.targets.now) c.args.arguments.now)
+    (sym c.in-None.ensures.none)

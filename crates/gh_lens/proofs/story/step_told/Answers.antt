@@ -9,5 +9,9 @@ returns c =
     record {
       exchange = e;
       handed = c.in_ok-exchange.ensures;
-      text_is = c.in_ok-push_handed.ensures ∙ ap (λ t. t ++ handed_text e) (c.in_ok-push_changes.ensures ∙ ap (λ t. t ++ changes_text c.args.before.now c.args.after.now) c.in_ok-text.ensures);
+      text_is =
+          c.in_ok-push_handed.ensures
+          ∙ ap (λ t. t ++ handed_text e)
+          (c.in_ok-push_changes.ensures
+          ∙ ap (λ t. t ++ changes_text c.args.before.now c.args.after.now) c.in_ok-text.ensures);
     }

@@ -13,7 +13,8 @@ pub returns-then-digits-gt-ALONE : goal.returns-then-digits-gt-ALONE
 returns-then-digits-gt-ALONE c = zero_first c.args.digits.now c.if-first-eq48.true c.if-digits-gt-ALONE.true
 
 pub returns-then-first-eq48 : goal.returns-then-first-eq48
-returns-then-first-eq48 c = just_zero c.args.digits.now c.if-first-eq48.true c.in-len1-up.len_at_least c.if-digits-gt-ALONE.false
+returns-then-first-eq48 c =
+    just_zero c.args.digits.now c.if-first-eq48.true c.in-len1-up.len_at_least c.if-digits-gt-ALONE.false
 
 pub returns-then-value-from : goal.returns-then-value-from
 returns-then-value-from c n k e =
@@ -23,5 +24,6 @@ returns-then-value-from c n k e =
 pub returns : goal.returns
 returns c =
     let ds = c.args.digits.now in
-    writes_its_value ds c.requires (omega arith) (λ z. absurd (c.if-first-eq48.false z)) (omega (arith, c.if-value-from.false, c.from.ensures, c.value_of-value.ensures))
+    writes_its_value ds c.requires (omega arith) (λ z. absurd (c.if-first-eq48.false z))
+    (omega (arith, c.if-value-from.false, c.from.ensures, c.value_of-value.ensures))
     ∙ ap decimal (sym c.value_of-value.ensures)

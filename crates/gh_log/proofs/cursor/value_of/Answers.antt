@@ -14,16 +14,27 @@ overflow_mul-value c =
 pub overflow_sub-digit : goal.overflow_sub-digit
 overflow_sub-digit c =
     let i = c.loop-digit.digit-index in let ds = c.args.digits.now in
-    (one_digit_more ds i (get_or ds i 0) c.requires.digits c.loop-digit-test.true (same ds i c.loop-digit-test.true)).1.0
+    (one_digit_more ds i (get_or ds i 0) c.requires.digits c.loop-digit-test.true
+    (same ds i c.loop-digit-test.true)).1.0
 
 pub overflow_add-value : goal.overflow_add-value
 overflow_add-value c =
     let i = c.loop-digit.digit-index in let ds = c.args.digits.now in
-    let more = one_digit_more ds i (get_or ds i 0) c.requires.digits c.loop-digit-test.true (same ds i c.loop-digit-test.true) in
-    omega (arith, few_digits ds (i + 1) c.requires.digits c.requires.few, more.0, c.loop-digit.invariant, c.from.ensures)
+    let more =
+    one_digit_more ds i (get_or ds i 0) c.requires.digits c.loop-digit-test.true
+    (same ds i c.loop-digit-test.true) in
+    omega (
+      arith,
+      few_digits ds (i + 1) c.requires.digits c.requires.few,
+      more.0,
+      c.loop-digit.invariant,
+      c.from.ensures,
+    )
 
 pub loop-digit-preserved : goal.loop-digit-preserved
 loop-digit-preserved c =
     let i = c.loop-digit.digit-index in let ds = c.args.digits.now in
-    let more = one_digit_more ds i (get_or ds i 0) c.requires.digits c.loop-digit-test.true (same ds i c.loop-digit-test.true) in
+    let more =
+    one_digit_more ds i (get_or ds i 0) c.requires.digits c.loop-digit-test.true
+    (same ds i c.loop-digit-test.true) in
     omega (arith, more.0, c.loop-digit.invariant, c.from.ensures)

@@ -12,6 +12,8 @@ loop-place-preserved c =
     let before = flat_map line_text (take c.loop-place.place lines) in
     let text = line_text (line_of c.line.result) in
     record {
-      same = c.in_ok-put_line.ensures.same ∙ ap (λ t. t ++ text) c.loop-place.invariant.same ∙ append_assoc start before text
-          ∙ ap (λ t. start ++ t) (sym (text_more line_text lines c.loop-place.place (line_of c.line.result) c.line.ensures));
+      same = c.in_ok-put_line.ensures.same ∙ ap (λ t. t ++ text) c.loop-place.invariant.same
+          ∙ append_assoc start before text
+          ∙ ap (λ t. start ++ t) (sym
+          (text_more line_text lines c.loop-place.place (line_of c.line.result) c.line.ensures));
     }

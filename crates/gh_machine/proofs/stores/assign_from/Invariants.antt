@@ -6,4 +6,5 @@ use Rattle.gh_machine.proofs.stores.assign_from.Given as goal
 
 abbrev pub invariant-loop-i : goal.invariant-loop-i
 invariant-loop-i l =
-    Gets (store_of l.fn.store) (names (take l.i l.targets)) (map (store_of l.from) (names (take l.i l.results))) (store_of l.store) × (listed_names l.store ≡ listed_names l.fn.store)
+    Gets (store_of l.fn.store) (names (take l.i l.targets)) (map (store_of l.from) (names (take l.i l.results)))
+    (store_of l.store) × (listed_names l.store ≡ listed_names l.fn.store)

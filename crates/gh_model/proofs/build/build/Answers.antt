@@ -35,8 +35,10 @@ states-requires-clause-all c =
     let proc = procedure_of c.index-procedure.result.now in
     let typed : IsTyped P = subst (λ Q. IsTyped (program_of Q)) same c.program-program.ensures.typed in
     let of : IsOf P (condition_of r) proc =
-    scoped_of T c.program-program.result.now r c.index-procedure.result.now same (one_is_scoped P r typed c.requires.of) c.index-procedure.ensures in
-    (are_built P proc (condition_of r) c.args.symbolic.now c.args.structure.now typed (condition_one P r c.requires.of) of (c.requires.told proc of) c.requires.terms c.requires.versions).all
+    scoped_of T c.program-program.result.now r c.index-procedure.result.now same (one_is_scoped P r typed c.requires.of)
+    c.index-procedure.ensures in
+    (are_built P proc (condition_of r) c.args.symbolic.now c.args.structure.now typed (condition_one P r c.requires.of)
+    of (c.requires.told proc of) c.requires.terms c.requires.versions).all
 
 pub states-requires-clause-distinct : goal.states-requires-clause-distinct
 states-requires-clause-distinct c =
@@ -47,7 +49,8 @@ states-requires-clause-distinct c =
     let proc = procedure_of c.index-procedure.result.now in
     let typed : IsTyped P = subst (λ Q. IsTyped (program_of Q)) same c.program-program.ensures.typed in
     let of : IsOf P (condition_of r) proc =
-    scoped_of T c.program-program.result.now r c.index-procedure.result.now same (one_is_scoped P r typed c.requires.of) c.index-procedure.ensures in
+    scoped_of T c.program-program.result.now r c.index-procedure.result.now same (one_is_scoped P r typed c.requires.of)
+    c.index-procedure.ensures in
     variables_are_distinct P typed proc (its_declared P proc (condition_of r) of)
 
 pub returns : goal.returns
@@ -61,9 +64,12 @@ returns c =
     let proc = procedure_of c.index-procedure.result.now in
     let typed : IsTyped P = subst (λ Q. IsTyped (program_of Q)) same c.program-program.ensures.typed in
     let of : IsOf P (condition_of r) proc =
-    scoped_of T c.program-program.result.now r c.index-procedure.result.now same (one_is_scoped P r typed c.requires.of) c.index-procedure.ensures in
+    scoped_of T c.program-program.result.now r c.index-procedure.result.now same (one_is_scoped P r typed c.requires.of)
+    c.index-procedure.ensures in
     IfOk-weaker c.states.result _ _ (λ t w q of'.
     ap (map drawn) w
-    ∙ ap (λ z. map drawn (states_in s (variable_names z) 0 y.steps.items y.bindings.items)) (one_value (slice_get P.procedures r.procedure) proc q of of')
-    ∙ built_is P q (condition_of r) y s typed (condition_one P r c.requires.of) of' (c.requires.told q of') c.requires.terms c.requires.versions
+    ∙ ap (λ z. map drawn (states_in s (variable_names z) 0 y.steps.items y.bindings.items))
+    (one_value (slice_get P.procedures r.procedure) proc q of of')
+    ∙ built_is P q (condition_of r) y s typed (condition_one P r c.requires.of) of' (c.requires.told q of')
+    c.requires.terms c.requires.versions
     ) c.states.ensures

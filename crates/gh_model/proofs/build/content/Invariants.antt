@@ -4,4 +4,5 @@ use Rattle.gh_model.specs.Versions.{version_of}
 use Rattle.gh_model.proofs.build.content.Given as goal
 
 abbrev pub invariant-loop-next : goal.invariant-loop-next
-invariant-loop-next l = (v : ℕ) → v < l.next → (version_of (interpretation_of l.structure) l.version).hop l.x.0 v ≡ false
+invariant-loop-next l =
+    (v : ℕ) → v < l.next → (version_of (interpretation_of l.structure) l.version).hop l.x.0 v ≡ false

@@ -11,7 +11,8 @@ returns-then-separates c =
 pub returns-then-begins_comment : goal.returns-then-begins_comment
 returns-then-begins_comment c =
     let line = c.line_length.ensures in
-    comment_ahead c.line_length.result c.args.text.now (c.begins_comment.ensures.0 c.if-begins_comment.true) line.within line.line line.ends
+    comment_ahead c.line_length.result c.args.text.now (c.begins_comment.ensures.0 c.if-begins_comment.true) line.within
+    line.line line.ends
 
 pub returns : goal.returns
 returns c =

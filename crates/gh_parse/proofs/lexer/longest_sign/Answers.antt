@@ -11,4 +11,5 @@ returns c =
     let text = c.args.text.now in
     longest_found text c.find.result
     (first_from_find _ _ c.find.result (λ s. BeginsWith (sign_text s) text) (HasNoSign text) c.find.ensures.ran
-    (YieldsList-from_copied (YieldsList-from_slice signs cc)) (λ s q k. search (rules, tests)) (λ s q k. search (rules, tests)))
+    (YieldsList-from_copied (YieldsList-from_slice signs cc)) (λ s q k. search (rules, tests))
+    (λ s q k. search (rules, tests)))

@@ -10,4 +10,5 @@ returns c =
     let word = c.args.word.now in
     reserved_found word c.find.result
     (first_from_find _ _ c.find.result (λ k. word ≡ keyword_text k) (λ k. word ≢ keyword_text k) c.find.ensures.ran
-    (YieldsList-from_copied (YieldsList-from_slice keywords cc)) (λ s q k. search (rules, tests)) (λ s q k. search (rules, tests)))
+    (YieldsList-from_copied (YieldsList-from_slice keywords cc)) (λ s q k. search (rules, tests))
+    (λ s q k. search (rules, tests)))

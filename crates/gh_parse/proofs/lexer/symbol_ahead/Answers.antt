@@ -10,7 +10,9 @@ pub returns-in_err-longest_sign : goal.returns-in_err-longest_sign
 returns-in_err-longest_sign c =
     let text = c.args.text.now in
     let b = c.args.first in
-    let not_name : is_name_byte b ≡ false = false_from_ne_true (is_name_byte b) (λ h. both_ways c.is_word_byte.result c.if-is_word_byte.false (c.is_word_byte.ensures.1 h)) in
+    let not_name : is_name_byte b ≡ false =
+    false_from_ne_true (is_name_byte b)
+    (λ h. both_ways c.is_word_byte.result c.if-is_word_byte.false (c.is_word_byte.ensures.1 h)) in
     subst (λ r. MatchOption r (IsStuck (cleared text)) (λ s. IsSymbolAhead text s)) (sym c.from_residual.ensures)
     (no_sign_stuck text b c.requires.front c.requires.blank not_name c.requires.comment c.in_err-longest_sign.ensures)
 

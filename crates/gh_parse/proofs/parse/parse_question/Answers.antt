@@ -11,4 +11,5 @@ returns-clause-refused c =
     let lexed = c.in_ok-lexed.lexed in
     subst (λ r. IfErr r (IsQuestionRefusal c.args.text.now)) (sym c.answer.ensures)
     (answer_refused SpellsQuestion _ lexed.whole question_of c.question-read.result
-    (subst (λ ts. IsScanned c.args.text.now ts lexed.end lexed.whole) (sym (ap tokens_of c.as_slice.ensures.value)) c.in_ok-lexed.ensures) c.question-read.ensures)
+    (subst (λ ts. IsScanned c.args.text.now ts lexed.end lexed.whole) (sym (ap tokens_of c.as_slice.ensures.value))
+    c.in_ok-lexed.ensures) c.question-read.ensures)

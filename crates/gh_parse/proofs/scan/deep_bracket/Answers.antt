@@ -14,19 +14,25 @@ at_most_one n b e = subst (λ m. m ≤ 1) (sym e) (from_bool_small b)
 pub overflow_add-opened : goal.overflow_add-opened
 overflow_add-opened c =
     let i = c.loop-byte in
-    let r = roomy c.args.text.now i.yielded (left i.byte-iterator) (left c.next.new.self) i.place i.opened i.closed c.in-Some.byte i.invariant.scan c.in-Some.ensures.steps in
+    let r =
+    roomy c.args.text.now i.yielded (left i.byte-iterator) (left c.next.new.self) i.place i.opened i.closed
+    c.in-Some.byte i.invariant.scan c.in-Some.ensures.steps in
     let one = at_most_one c.from-opened.result c.opens.result c.from-opened.ensures in omega arith
 
 pub overflow_add-closed : goal.overflow_add-closed
 overflow_add-closed c =
     let i = c.loop-byte in
-    let r = roomy c.args.text.now i.yielded (left i.byte-iterator) (left c.next.new.self) i.place i.opened i.closed c.in-Some.byte i.invariant.scan c.in-Some.ensures.steps in
+    let r =
+    roomy c.args.text.now i.yielded (left i.byte-iterator) (left c.next.new.self) i.place i.opened i.closed
+    c.in-Some.byte i.invariant.scan c.in-Some.ensures.steps in
     let one = at_most_one c.from-closed.result c.closes.result c.from-closed.ensures in omega arith
 
 pub overflow_add-closed-in-loop-byte : goal.overflow_add-closed-in-loop-byte
 overflow_add-closed-in-loop-byte c =
     let i = c.loop-byte in
-    let r = roomy c.args.text.now i.yielded (left i.byte-iterator) (left c.next.new.self) i.place i.opened i.closed c.in-Some.byte i.invariant.scan c.in-Some.ensures.steps in
+    let r =
+    roomy c.args.text.now i.yielded (left i.byte-iterator) (left c.next.new.self) i.place i.opened i.closed
+    c.in-Some.byte i.invariant.scan c.in-Some.ensures.steps in
     let one = at_most_one c.from-closed.result c.closes.result c.from-closed.ensures in omega arith
 
 pub returns-then-opened-closed : goal.returns-then-opened-closed
@@ -37,20 +43,27 @@ returns-then-opened-closed c =
     let before = left i.byte-iterator in
     let after = left c.next.new.self in
     let steps = c.in-Some.ensures.steps in
-    let n = next_of text i.yielded before after i.place i.opened i.closed b c.from-opened.result c.from-closed.result c.opens.result c.closes.result i.invariant.scan steps
+    let n =
+    next_of text i.yielded before after i.place i.opened i.closed b c.from-opened.result c.from-closed.result
+    c.opens.result c.closes.result i.invariant.scan steps
     c.from-opened.ensures c.opens.ensures c.from-closed.ensures c.closes.ensures in
-    scan_deep text i.yielded before after i.place i.opened i.closed b _ _ i.invariant.scan steps n c.if-opened-closed.true
+    scan_deep text i.yielded before after i.place i.opened i.closed b _ _ i.invariant.scan steps n
+    c.if-opened-closed.true
 
 pub after_byte-place-requires-clause-line : goal.after_byte-place-requires-clause-line
 after_byte-place-requires-clause-line c =
     let i = c.loop-byte in
-    let r = roomy c.args.text.now i.yielded (left i.byte-iterator) (left c.next.new.self) i.place i.opened i.closed c.in-Some.byte i.invariant.scan c.in-Some.ensures.steps in
+    let r =
+    roomy c.args.text.now i.yielded (left i.byte-iterator) (left c.next.new.self) i.place i.opened i.closed
+    c.in-Some.byte i.invariant.scan c.in-Some.ensures.steps in
     omega arith
 
 pub after_byte-place-requires-clause-col : goal.after_byte-place-requires-clause-col
 after_byte-place-requires-clause-col c =
     let i = c.loop-byte in
-    let r = roomy c.args.text.now i.yielded (left i.byte-iterator) (left c.next.new.self) i.place i.opened i.closed c.in-Some.byte i.invariant.scan c.in-Some.ensures.steps in
+    let r =
+    roomy c.args.text.now i.yielded (left i.byte-iterator) (left c.next.new.self) i.place i.opened i.closed
+    c.in-Some.byte i.invariant.scan c.in-Some.ensures.steps in
     omega arith
 
 pub loop-byte-preserved : goal.loop-byte-preserved
@@ -61,9 +74,12 @@ loop-byte-preserved c =
     let before = left i.byte-iterator in
     let after = left c.next.new.self in
     let steps = c.in-Some.ensures.steps in
-    let n = next_of text i.yielded before after i.place i.opened i.closed b c.from-opened.result c.from-closed.result c.opens.result c.closes.result i.invariant.scan steps
+    let n =
+    next_of text i.yielded before after i.place i.opened i.closed b c.from-opened.result c.from-closed.result
+    c.opens.result c.closes.result i.invariant.scan steps
     c.from-opened.ensures c.opens.ensures c.from-closed.ensures c.closes.ensures in
     record {
       next = tt;
-      scan = scan_next text i.yielded before after i.place c.after_byte-place.result i.opened i.closed b _ _ i.invariant.scan n c.if-opened-closed.false c.after_byte-place.ensures;
+      scan = scan_next text i.yielded before after i.place c.after_byte-place.result i.opened i.closed b _ _
+          i.invariant.scan n c.if-opened-closed.false c.after_byte-place.ensures;
     }

@@ -9,4 +9,5 @@ pub assigns-returns-in-Call : goal.assigns-returns-in-Call
 assigns-returns-in-Call t c =
     let w = c.in-Call in
     rw (w.is, statement_of-Call w.targets w.callee w.arguments)
-    ((rw c.as_slice.ensures.value at c.is_among.ensures) ∙ sym (any_map (bytes_eq c.args.name.now) (λ (o : Occ). o.name) w.targets.items))
+    ((rw c.as_slice.ensures.value at c.is_among.ensures)
+    ∙ sym (any_map (bytes_eq c.args.name.now) (λ (o : Occ). o.name) w.targets.items))

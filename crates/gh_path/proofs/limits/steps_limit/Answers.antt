@@ -6,9 +6,12 @@ use Rattle.gh_path.proofs.limits.steps_limit.Goals as goal
 
 pub returns-then-ahead : goal.returns-then-ahead
 returns-then-ahead c = λ P.
-    first_limit (HasManySteps P) IsLong (steps_told P) c.args.procedures.now c.args.aheads.now c.requires c.loop-place.place c.index-procedures-place.result _ 5 _ _ (omega arith) c.loop-place.invariant c.if-ahead.true refl refl refl
+    first_limit (HasManySteps P) IsLong (steps_told P) c.args.procedures.now c.args.aheads.now c.requires
+    c.loop-place.place c.index-procedures-place.result _ 5 _ _ (omega arith) c.loop-place.invariant c.if-ahead.true
+    refl refl refl
 
 pub returns : goal.returns
 returns c = λ P.
     let end : c.loop-place.place ≡ length c.args.aheads.now = omega arith in
-    none_of (HasManySteps P) IsLong (steps_told P) (map procedure_of c.args.procedures.now) c.args.aheads.now c.requires (subst (NoneBefore IsLong c.args.aheads.now) end c.loop-place.invariant)
+    none_of (HasManySteps P) IsLong (steps_told P) (map procedure_of c.args.procedures.now) c.args.aheads.now c.requires
+    (subst (NoneBefore IsLong c.args.aheads.now) end c.loop-place.invariant)

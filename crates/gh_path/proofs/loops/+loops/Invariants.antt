@@ -6,4 +6,5 @@ use Rattle.gh_path.proofs.loops.+loops.Given as goal
 
 abbrev pub invariant-add_all_loops-loop-statement : goal.invariant-add_all_loops-loop-statement
 invariant-add_all_loops-loop-statement l =
-    map loop_of l.found.items ++ all_loops (statements_view (drop l.statement-index l.statements)) ≡ map loop_of l.fn.found.items ++ all_loops (statements_view l.statements)
+    map loop_of l.found.items ++ all_loops (statements_view (drop l.statement-index l.statements))
+    ≡ map loop_of l.fn.found.items ++ all_loops (statements_view l.statements)

@@ -15,17 +15,25 @@ loop-statement-preserved c =
     let n = c.loop-statement.number in
     let m = c.saturating_add-number.result in
     let t = c.args.first + length (all_loops (statements_view ss)) in
-    let sum = c.saturating_add-number.ensures ∙ ap (λ k. min (c.loop-statement.number + k) 4294967295) c.count_loops.ensures in
+    let sum =
+    c.saturating_add-number.ensures
+    ∙ ap (λ k. min (c.loop-statement.number + k) 4294967295) c.count_loops.ensures in
     record {
       long = omega (arith, c.in_ok-push.ensures.len, c.loop-statement.invariant.long);
-      suits_next = λ w all. suit_next w n m ss i x c.loop-statement-test.true c.statement-item.is sum (c.loop-statement.invariant.suits_next w all);
+      suits_next =
+          λ w all. suit_next w n m ss i x c.loop-statement-test.true c.statement-item.is sum
+          (c.loop-statement.invariant.suits_next w all);
       suit = λ w all.
-          each_more (λ n d. Suits w n (statement_of d)) ss c.loop-statement.numbers.items c.push.new.self.items i n x c.loop-statement-test.true c.statement-item.is
+          each_more (λ n d. Suits w n (statement_of d)) ss c.loop-statement.numbers.items c.push.new.self.items i n x
+          c.loop-statement-test.true c.statement-item.is
           (omega (arith, c.loop-statement.numbers.ok, c.loop-statement.invariant.long)) c.in_ok-push.ensures.items
-          (suit_first w n ss i x c.loop-statement-test.true c.statement-item.is (c.loop-statement.invariant.suits_next w all)) (c.loop-statement.invariant.suit w all);
-      sum = λ room. sum_next n m t ss i x c.loop-statement-test.true c.statement-item.is sum room (c.loop-statement.invariant.sum room);
+          (suit_first w n ss i x c.loop-statement-test.true c.statement-item.is
+          (c.loop-statement.invariant.suits_next w all)) (c.loop-statement.invariant.suit w all);
+      sum = λ room. sum_next n m t ss i x c.loop-statement-test.true c.statement-item.is sum room
+          (c.loop-statement.invariant.sum room);
       are = λ room.
-          numbers_next n m t ss i x c.loop-statement.numbers.items c.push.new.self.items (first_loops c.args.first ss) c.loop-statement-test.true c.statement-item.is sum
+          numbers_next n m t ss i x c.loop-statement.numbers.items c.push.new.self.items (first_loops c.args.first ss)
+          c.loop-statement-test.true c.statement-item.is sum
           room (c.loop-statement.invariant.sum room) c.in_ok-push.ensures.items (c.loop-statement.invariant.are room);
     }
 

@@ -12,14 +12,17 @@ loop-place-preserved c =
     let none : Taken = record { origin = record { place = 0; turned = false }; other = None } in
     let t : Taken = get_or ts i none in
     record {
-      these = held_more c.loop-place.held.items c.hold_step.new.held.items ts i t c.loop-place-test.true c.loop-place.invariant.these (get_or_default ts i none t c.loop-place-test.true)
+      these =
+          held_more c.loop-place.held.items c.hold_step.new.held.items ts i t c.loop-place-test.true
+          c.loop-place.invariant.these (get_or_default ts i none t c.loop-place-test.true)
           c.in_ok-hold_step.ensures.there;
       held = λ before. c.in_ok-hold_step.ensures.held (c.loop-place.invariant.held before);
     }
 
 pub returns-clause-these : goal.returns-clause-these
 returns-clause-these c =
-    held_all c.loop-place.held.items c.truncate.new.self.items c.args.taken.now (length c.args.taken.now) c.loop-place.place refl c.loop-place-test.false c.loop-place.auto.place-end
+    held_all c.loop-place.held.items c.truncate.new.self.items c.args.taken.now (length c.args.taken.now)
+    c.loop-place.place refl c.loop-place-test.false c.loop-place.auto.place-end
     c.loop-place.invariant.these c.truncate.ensures.items
 
 pub returns-clause-held : goal.returns-clause-held

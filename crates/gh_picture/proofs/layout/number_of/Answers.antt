@@ -6,7 +6,8 @@ use Rattle.gh_picture.proofs.Numbers.{number_found, number_some}
 use Rattle.gh_picture.proofs.layout.number_of.Goals as goal
 
 pub returns-clause-number : goal.returns-clause-number
-returns-clause-number c = c.ok.ensures.value ∙ sym (number_found c.args.cells.now c.args.at c.place.result c.requires c.place.ensures)
+returns-clause-number c =
+    c.ok.ensures.value ∙ sym (number_found c.args.cells.now c.args.at c.place.result c.requires c.place.ensures)
 
 within : (cs : List Cell) (at : ℕ) (o : Option ℕ) → number_in cs at ≡ o → IfSome o (λ i. i < length cs)
 within cs at None e = tt

@@ -17,8 +17,11 @@ loop-from-preserved c =
     let new = c.begin_line-line.new.spots in
     let inv = c.loop-from.invariant in record {
       lines = c.begin_line-line.ensures.lines;
-      begun = next_begins c.args.cells.now c.args.order.now i 0 old new c.loop-from.line c.begin_line-line.result c.loop-from-test.true inv.lines
+      begun =
+          next_begins c.args.cells.now c.args.order.now i 0 old new c.loop-from.line c.begin_line-line.result
+          c.loop-from-test.true inv.lines
           c.begin_line-line.ensures.kept c.begin_line-line.ensures.begins inv.all inv.begun;
-      all = next_stands c.args.order.now i 0 old new c.loop-from-test.true c.begin_line-line.ensures.kept c.begin_line-line.ensures.placed inv.all;
+      all = next_stands c.args.order.now i 0 old new c.loop-from-test.true c.begin_line-line.ensures.kept
+          c.begin_line-line.ensures.placed inv.all;
       few = omega (arith, c.begin_line-line.ensures.few, inv.few);
     }

@@ -10,4 +10,5 @@ loop-number-preserved c =
     let cells = c.args.cells.now in
     let old = c.loop-number.order.items in
     let rest = numbers (k + 1) (drop (k + 1) cells) in
-    ap (λ (ns : List ℕ). ns ++ rest) c.in_ok-push.ensures.items ∙ append_assoc old (k ∷ []) rest ∙ ap (λ (ns : List ℕ). old ++ ns) (sym (next_number cells k c.loop-number-test.true)) ∙ c.loop-number.invariant
+    ap (λ (ns : List ℕ). ns ++ rest) c.in_ok-push.ensures.items ∙ append_assoc old (k ∷ []) rest
+    ∙ ap (λ (ns : List ℕ). old ++ ns) (sym (next_number cells k c.loop-number-test.true)) ∙ c.loop-number.invariant

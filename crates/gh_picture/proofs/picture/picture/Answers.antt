@@ -11,5 +11,10 @@ pub returns : goal.returns
 returns c =
     let tree = c.in_ok-tree.tree in
     IfOk-weaker c.write.result (λ t. t ≡ svg_text tree) (IsPicture c.args.scene.now)
-    (λ t e. record { tree = tree; written = e; of_scene = c.in_ok-tree.ensures; well_formed = subst IsElement (sym e) (tree_element tree) })
+    (λ t e. record {
+      tree = tree;
+      written = e;
+      of_scene = c.in_ok-tree.ensures;
+      well_formed = subst IsElement (sym e) (tree_element tree);
+    })
     c.write.ensures

@@ -15,6 +15,8 @@ loop-row-preserved c =
     let d = c.in_ok-drawn.drawn in
     let e = c.loop-row.extent in
     let wide : max e.columns d.columns ≡ c.max.result = grind (arith, common_steps) in
-    subst (λ (ps : List Panel). AddsPanels (take (i + 1) rows) least old ps d.below c.max.result) (sym c.in_ok-push.ensures)
+    subst (λ (ps : List Panel). AddsPanels (take (i + 1) rows) least old ps d.below c.max.result)
+    (sym c.in_ok-push.ensures)
     (subst (λ (n : ℕ). AddsPanels (take (i + 1) rows) least old (c.loop-row.panels ++ d.panel ∷ []) d.below n) wide
-    (adds_more rows i c.row-item.result least old c.loop-row.panels d.panel e.lines d.below d.columns e.columns c.row-item.is c.loop-row-test.true c.loop-row.invariant c.in_ok-drawn.ensures))
+    (adds_more rows i c.row-item.result least old c.loop-row.panels d.panel e.lines d.below d.columns e.columns
+    c.row-item.is c.loop-row-test.true c.loop-row.invariant c.in_ok-drawn.ensures))

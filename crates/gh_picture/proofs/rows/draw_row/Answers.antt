@@ -14,9 +14,13 @@ returns c =
     let cells = same_cells c.cells.result.now row.state.heap c.cells.ensures.entries in record {
       spots = c.in_ok-spots.spots.items;
       stand = subst (λ (cs : List Cell). AreSpots cs c.in_ok-spots.spots.items) cells c.in_ok-spots.ensures.lists;
-      order = subst (λ (es : List Entry). AreInOrder (order_of (cells_of row.state.heap) es) c.in_ok-spots.spots.items) c.entries.ensures.same
-          (subst (λ (cs : List Cell). AreInOrder (order_of cs c.entries.result.now) c.in_ok-spots.spots.items) cells c.in_ok-spots.ensures.order);
-      past = subst (λ (ss : List Spot). IsPast c.args.top ss c.line_below.result) c.as_slice-2.ensures.value c.line_below.ensures;
+      order =
+          subst (λ (es : List Entry). AreInOrder (order_of (cells_of row.state.heap) es) c.in_ok-spots.spots.items)
+          c.entries.ensures.same
+          (subst (λ (cs : List Cell). AreInOrder (order_of cs c.entries.result.now) c.in_ok-spots.spots.items) cells
+          c.in_ok-spots.ensures.order);
+      past = subst (λ (ss : List Spot). IsPast c.args.top ss c.line_below.result) c.as_slice-2.ensures.value
+          c.line_below.ensures;
       columns_are = c.row_columns.ensures ∙ ap (λ (ss : List Spot). row_columns row ss) c.as_slice-3.ensures.value;
       attributes = c.in_ok-attributes.ensures;
       groups = c.in_ok-groups.ensures ∙ ap (λ (ss : List Spot). row_groups row ss) c.as_slice.ensures.value;

@@ -4,4 +4,6 @@ use Rattle.gh_picture.specs.Written.{attribute_text}
 use Rattle.gh_picture.proofs.writing.push_attributes.Given as goal
 
 abbrev pub invariant-loop-attribute : goal.invariant-loop-attribute
-invariant-loop-attribute l = l.out ++ flat_map attribute_text (drop l.attribute-index l.attribute-items) ≡ l.initial.out ++ flat_map attribute_text l.attribute-items
+invariant-loop-attribute l =
+    l.out ++ flat_map attribute_text (drop l.attribute-index l.attribute-items)
+    ≡ l.initial.out ++ flat_map attribute_text l.attribute-items

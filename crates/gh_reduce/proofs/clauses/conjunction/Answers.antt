@@ -11,4 +11,6 @@ add_long-requires-clause-others c =
     let r = c.add_pairs.new.ground in
     let lits = c.args.lits.now in
     subst (λ (ls : List Lit). AreInRange r.sizes ls) (sym (c.as_slice.ensures.value ∙ c.in_ok-opposites.ensures))
-    (opposites_in_range r.sizes lits (clauses_keep q r (pairs c.negated.result lits) lits c.in_ok-add_pairs.ensures (still_in_range p q lits c.in_ok-defined.ensures.counted c.requires)))
+    (opposites_in_range r.sizes lits
+    (clauses_keep q r (pairs c.negated.result lits) lits c.in_ok-add_pairs.ensures.added
+    (still_in_range p q lits c.in_ok-defined.ensures.counted c.requires)))

@@ -14,5 +14,8 @@ add_pairs-requires-clause-others c =
 
 pub returns-clause-state : goal.returns-clause-state
 returns-clause-state c =
-    disjunction_state c.args.ground.now c.define.new.ground c.add_pairs.new.ground c.add_long.new.ground c.args.lits.now c.as_slice.result.now c.in_ok-defined.defined c.negated.result
-    c.in_ok-defined.ensures.counted c.in_ok-defined.ensures.number c.negated.ensures (c.as_slice.ensures.value ∙ c.in_ok-opposites.ensures) c.in_ok-add_pairs.ensures c.in_ok-add_long.ensures
+    disjunction_state c.args.ground.now c.define.new.ground c.add_pairs.new.ground c.add_long.new.ground c.args.lits.now
+    c.as_slice.result.now c.in_ok-defined.defined c.negated.result
+    c.in_ok-defined.ensures.counted c.in_ok-defined.ensures.number c.negated.ensures
+    (c.as_slice.ensures.value ∙ c.in_ok-opposites.ensures) c.in_ok-add_pairs.ensures.added
+    c.in_ok-add_long.ensures.added

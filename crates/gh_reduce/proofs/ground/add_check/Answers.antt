@@ -1,5 +1,5 @@
 use Rattle.std.proofs.Common.{map, ap, subst, ◌∙◌, arith}
-use Rattle.gh_grass.specs.Claims.{claim_of, negation_of}
+use Rattle.gh_grass.specs.Claims.{ground_formula_of, negation_of}
 use Rattle.gh_symb.specs.Formulas.{meets}
 use Rattle.gh_symb.specs.Encodings.{plain_kind}
 use Rattle.gh_symb.specs.declared.over_terms.TermCheck.{TermCheck}
@@ -15,5 +15,6 @@ add_formula-requires-in-Sub c =
     let u = under_of c.in-Sub.bound in
     let some = c.requires.ready.some in
     let h = subst (λ (k : TermCheck). IsCheckInside s.terms s.versions (check_of k)) c.in-Sub.is c.requires.inside in
-    claim_within s (negation_of (meets ks u)) (claim_of c.in_ok-fails-in-Sub.fails) (c.in_ok-fails-in-Sub.ensures ∙ ap negation_of c.in_ok-meets-in-Sub.ensures)
+    claim_within s (negation_of (meets ks u)) (ground_formula_of c.in_ok-fails-in-Sub.fails)
+    (c.in_ok-fails-in-Sub.ensures ∙ ap negation_of c.in_ok-meets-in-Sub.ensures)
     (meets_within s ks u c.requires.ready.terms (omega (arith, some)) h)

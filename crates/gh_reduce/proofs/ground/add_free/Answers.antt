@@ -14,10 +14,13 @@ add_each_pair-requires c =
     let p = c.args.ground.now in
     let i = c.args.old in
     let v = c.requires.version in
-    pair_stays p c.add_each_term.new.ground (each p.sizes.terms (of_term (Freed i (i + 1) c.args.x))) (Others i (i + 1) c.args.x) c.in_ok-add_each_term.ensures.stated (omega (arith, v), v, c.requires.x)
+    pair_stays p c.add_each_term.new.ground (each p.sizes.terms (of_term (Freed i (i + 1) c.args.x)))
+    (Others i (i + 1) c.args.x) c.in_ok-add_each_term.ensures.stated (omega (arith, v), v, c.requires.x)
 
 pub returns : goal.returns
 returns c =
     let p = c.args.ground.now in
     let i = c.args.old in
-    pairs_more p c.add_each_term.new.ground c.add_each_pair.new.ground (each p.sizes.terms (of_term (Freed i (i + 1) c.args.x))) (of_pair (Others i (i + 1) c.args.x)) c.in_ok-add_each_term.ensures.stated c.in_ok-add_each_pair.ensures.stated
+    pairs_more p c.add_each_term.new.ground c.add_each_pair.new.ground
+    (each p.sizes.terms (of_term (Freed i (i + 1) c.args.x))) (of_pair (Others i (i + 1) c.args.x))
+    c.in_ok-add_each_term.ensures.stated c.in_ok-add_each_pair.ensures.stated

@@ -1,6 +1,6 @@
 use Rattle.std.proofs.Common.{◌≡◌, ◌∷◌, [], List, map, subst, arith}
 use Rattle.std.proofs.lemmas.List.Elements.{All-head}
-use Rattle.gh_grass.specs.Claims.{claim_of, one_of}
+use Rattle.gh_grass.specs.Claims.{ground_formula_of, one_of}
 use Rattle.gh_symb.specs.Formulas.{meets_whole}
 use Rattle.gh_symb.specs.Encodings.{plain_kind}
 use Rattle.gh_symb.specs.declared.over_terms.BoundAssertion.{BoundAssertion}
@@ -17,10 +17,14 @@ add_failing-requires c =
     let bs = c.args.bounds.now in
     let only = c.only-item.result in
     let some = c.requires.ready.some in
-    let is : bs ≡ only ∷ [] = is_one bs only (omega (arith, c.in-len1.len_at_least, c.in-len1.len_below)) c.only-item.is in
-    let all = subst (λ (xs : List BoundAssertion). AllAreInside s.terms s.versions (map under_of xs)) is c.requires.inside in
-    claim_within s (meets_whole ks (under_of only)) (claim_of c.in_ok-meets_whole-in-len1.field-0) c.in_ok-meets_whole-in-len1.ensures
-    (whole_within s ks (under_of only) c.requires.ready.terms (omega (arith, some)) (All-head (IsUnderInside s.terms s.versions) (under_of only) [] all))
+    let is : bs ≡ only ∷ [] =
+    is_one bs only (omega (arith, c.in-len1.len_at_least, c.in-len1.len_below)) c.only-item.is in
+    let all =
+    subst (λ (xs : List BoundAssertion). AllAreInside s.terms s.versions (map under_of xs)) is c.requires.inside in
+    claim_within s (meets_whole ks (under_of only)) (ground_formula_of c.in_ok-meets_whole-in-len1.field-0)
+    c.in_ok-meets_whole-in-len1.ensures
+    (whole_within s ks (under_of only) c.requires.ready.terms (omega (arith, some))
+    (All-head (IsUnderInside s.terms s.versions) (under_of only) [] all))
 
 pub add_failing-requires-in_default : goal.add_failing-requires-in_default
 add_failing-requires-in_default c =
@@ -28,5 +32,6 @@ add_failing-requires-in_default c =
     let ks = map plain_kind c.args.terms.now in
     let us = map under_of c.args.bounds.now in
     let some = c.requires.ready.some in
-    claim_within s (one_of (map (meets_whole ks) us)) (claim_of c.in_ok-meets_one-in_default.field-0) c.in_ok-meets_one-in_default.ensures
+    claim_within s (one_of (map (meets_whole ks) us)) (ground_formula_of c.in_ok-meets_one-in_default.field-0)
+    c.in_ok-meets_one-in_default.ensures
     (one_within s ks us c.requires.ready.terms (omega (arith, some)) c.requires.inside)

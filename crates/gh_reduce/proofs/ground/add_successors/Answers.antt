@@ -1,7 +1,7 @@
 use Rattle.std.proofs.Common.{◌+◌, Some, map, drop, ◌∙◌, ap, arith}
 use Rattle.std.proofs.lemmas.List.{length-map}
 use Rattle.gh_path.specs.Terms.{Kind}
-use Rattle.gh_symb.specs.Formulas.{successor_claims, successors_from}
+use Rattle.gh_symb.specs.Formulas.{successor_formulas, successors_from}
 use Rattle.gh_symb.specs.Encodings.{plain_kind}
 use Rattle.gh_reduce.specs.Growth.{stated_in}
 use Rattle.gh_reduce.proofs.GrowthLemmas.{stated_first, same_terms, same_versions}
@@ -30,10 +30,14 @@ loop-t-preserved c =
     let i = c.args.version in
     let p = c.loop-t.ground in
     let q = c.add_kind.new.ground in
-    let first = successor_claims i t (plain_kind c.in-Some.kind) in
+    let first = successor_formulas i t (plain_kind c.in-Some.kind) in
     record {
-      state = stated_first p q (stated_in c.args.ground.now (successors_from i 0 (map plain_kind ts))) (successors_from i t (map plain_kind (drop t ts))) first (successors_from i (t + 1) (map plain_kind (drop (t + 1) ts)))
-          c.loop-t.invariant.state (successors_first i ts t c.in-Some.kind c.in-Some.ensures.value) c.in_ok-add_kind.ensures;
+      state =
+          stated_first p q (stated_in c.args.ground.now (successors_from i 0 (map plain_kind ts)))
+          (successors_from i t (map plain_kind (drop t ts))) first
+          (successors_from i (t + 1) (map plain_kind (drop (t + 1) ts)))
+          c.loop-t.invariant.state (successors_first i ts t c.in-Some.kind c.in-Some.ensures.value)
+          c.in_ok-add_kind.ensures;
       terms = same_terms p q first c.in_ok-add_kind.ensures ∙ c.loop-t.invariant.terms;
       versions = same_versions p q first c.in_ok-add_kind.ensures ∙ c.loop-t.invariant.versions;
     }

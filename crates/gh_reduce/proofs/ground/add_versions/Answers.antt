@@ -1,5 +1,5 @@
 use Rattle.std.proofs.Common.{map, arith}
-use Rattle.gh_symb.specs.Formulas.{version_claims, versions_claims}
+use Rattle.gh_symb.specs.Formulas.{version_formulas, versions_formulas}
 use Rattle.gh_symb.specs.Encodings.{plain_kind}
 use Rattle.gh_reduce.proofs.GrowthLemmas.{numbers_more, same_versions}
 use Rattle.gh_reduce.proofs.RowLemmas.{ready_stays}
@@ -10,7 +10,7 @@ add_version-requires c =
     let p = c.args.ground.now in
     let q = c.loop-version.ground in
     let ks = map plain_kind c.args.terms.now in
-    let fs = versions_claims ks c.loop-version.version in
+    let fs = versions_formulas ks c.loop-version.version in
     let e = same_versions p q fs c.loop-version.invariant in
     record {
       version = omega (arith, e, c.versions-version-end.ensures);
@@ -19,4 +19,5 @@ add_version-requires c =
 
 pub loop-version-preserved : goal.loop-version-preserved
 loop-version-preserved c =
-    numbers_more (version_claims (map plain_kind c.args.terms.now)) c.loop-version.version c.args.ground.now c.loop-version.ground c.add_version.new.ground c.loop-version.invariant c.in_ok-add_version.ensures.stated
+    numbers_more (version_formulas (map plain_kind c.args.terms.now)) c.loop-version.version c.args.ground.now
+    c.loop-version.ground c.add_version.new.ground c.loop-version.invariant c.in_ok-add_version.ensures.stated

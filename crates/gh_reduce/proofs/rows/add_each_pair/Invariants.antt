@@ -7,4 +7,6 @@ use Rattle.gh_reduce.specs.Rows.{of_pair}
 use Rattle.gh_reduce.proofs.rows.add_each_pair.Given as goal
 
 abbrev pub invariant-loop-z : goal.invariant-loop-z
-invariant-loop-z l = l.ground ≡ stated_in l.initial.ground (flat_map (λ z. each l.initial.ground.sizes.terms (of_pair l.each z)) (terms_below l.z))
+invariant-loop-z l =
+    l.ground ≡ stated_in l.initial.ground
+    (flat_map (λ z. each l.initial.ground.sizes.terms (of_pair l.each z)) (terms_below l.z))

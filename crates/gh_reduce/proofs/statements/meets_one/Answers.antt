@@ -1,6 +1,6 @@
 use Rattle.std.proofs.Common.{◌≡◌, ◌∙◌, ◌+◌, ◌++◌, ◌∷◌, List, drop, map, ap, sym, subst}
 use Rattle.gh_grass.specs.declared.formula.Formula.{Formula}
-use Rattle.gh_grass.specs.Claims.{GroundClaim, claim_of, claims_list}
+use Rattle.gh_grass.specs.Claims.{GroundFormula, ground_formula_of, ground_formula_list}
 use Rattle.gh_grass.proofs.ClaimLemmas.{put_more}
 use Rattle.gh_symb.specs.Symbolic.{Under}
 use Rattle.gh_symb.specs.Formulas.{meets_whole}
@@ -13,11 +13,14 @@ pub loop-bound-preserved : goal.loop-bound-preserved
 loop-bound-preserved c =
     let bs = c.args.bounds.now in
     let i = c.loop-bound.bound-index in
-    let F : Under → GroundClaim = meets_whole (map plain_kind c.args.terms.now) in
+    let F : Under → GroundFormula = meets_whole (map plain_kind c.args.terms.now) in
     let b = c.bound-item.result in
-    let here : List GroundClaim = map F (map under_of (drop i bs)) in
-    let rest : List GroundClaim = map F (map under_of (drop (i + 1) bs)) in
+    let here : List GroundFormula = map F (map under_of (drop i bs)) in
+    let rest : List GroundFormula = map F (map under_of (drop (i + 1) bs)) in
     let f = c.in_ok-meets_whole.field-0 in
-    let split : here ≡ claim_of f ∷ rest = ap (map F) (bounds_from bs i b c.loop-bound-test.true c.bound-item.is) ∙ ap (λ x. x ∷ rest) (sym c.in_ok-meets_whole.ensures) in
-    subst (λ (fs : List Formula). claims_list fs ++ rest ≡ map F (map under_of bs)) (sym c.in_ok-push.ensures.items)
+    let split : here ≡ ground_formula_of f ∷ rest =
+    ap (map F) (bounds_from bs i b c.loop-bound-test.true c.bound-item.is)
+    ∙ ap (λ x. x ∷ rest) (sym c.in_ok-meets_whole.ensures) in
+    subst (λ (fs : List Formula). ground_formula_list fs ++ rest ≡ map F (map under_of bs))
+    (sym c.in_ok-push.ensures.items)
     (put_more c.loop-bound.members.items f here rest (map F (map under_of bs)) c.loop-bound.invariant split)

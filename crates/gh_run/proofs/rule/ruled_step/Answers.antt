@@ -16,9 +16,13 @@ returns-clause-next c =
       content = refl;
       starts = c.in_ok-vec.ensures.items_if_clones_equal (λ y e. e);
     } in
-    IfOk-weaker c.step.result _ _ (λ next w. ruled_next P next c.starts_wanted-wanted.result ch (config_of c.args.config.now) (config_of c.step.new.config) is c.starts_wanted-wanted.ensures.wanted w) c.step.ensures.next
+    IfOk-weaker c.step.result _ _
+    (λ next w. ruled_next P next c.starts_wanted-wanted.result ch (config_of c.args.config.now)
+    (config_of c.step.new.config) is c.starts_wanted-wanted.ensures.wanted w) c.step.ensures.next
 
 pub returns-clause-room : goal.returns-clause-room
 returns-clause-room c =
     let ch : Choice = record { location = c.least_free.result; content = 0; starts = c.in_ok-vec.field-0 } in
-    IfOk-weaker c.step.result _ _ (λ next w. next_grows (program_of c.args.typed.now) next ch (config_of c.args.config.now) (config_of c.step.new.config) w) c.step.ensures.next
+    IfOk-weaker c.step.result _ _
+    (λ next w. next_grows (program_of c.args.typed.now) next ch (config_of c.args.config.now)
+    (config_of c.step.new.config) w) c.step.ensures.next

@@ -22,11 +22,14 @@ pub returns-then-not-branch : goal.returns-then-not-branch
 returns-then-not-branch c =
     let b = c.args.begin.now in
     let p = c.requires.fits.0 in
-    let same = read_at c.args.typed.now c.program.result.now b.procedure c.from.result c.index-procedure.result.now p c.program.ensures.same c.from.ensures c.index-procedure.ensures c.requires.fits.1.numbered in (
+    let same =
+    read_at c.args.typed.now c.program.result.now b.procedure c.from.result c.index-procedure.result.now p
+    c.program.ensures.same c.from.ensures c.index-procedure.ensures c.requires.fits.1.numbered in (
       p,
       c.requires.fits.1,
       λ well.
-          let has : IsTrue c.in_ok-has_part.field-0 = c.in_ok-has_part.ensures.1 (subst (λ q. HasPart q.needs (store_of b.store) b.heap) (sym same) well) in
+          let has : IsTrue c.in_ok-has_part.field-0 =
+          c.in_ok-has_part.ensures.1 (subst (λ q. HasPart q.needs (store_of b.store) b.heap) (sym same) well) in
           let none = c.if-not-branch.true in
           absurd cc,
     )
@@ -38,11 +41,20 @@ returns-in-Stopped c =
     let P = program_of c.args.typed.now in
     let d = config_of c.run_ruled.new.config in
     let k = c.in_ok-steps.steps in
-    let same = read_at c.args.typed.now c.program.result.now b.procedure c.from.result c.index-procedure.result.now proc c.program.ensures.same c.from.ensures c.index-procedure.ensures c.requires.fits.1.numbered in
-    let well : HasPart proc.needs (store_of b.store) b.heap = subst (λ q. HasPart q.needs (store_of b.store) b.heap) same (c.in_ok-has_part.ensures.0 c.if-not-branch.false) in
-    let begins = subst (λ x. IsHalted P x c.args.limit c.in_ok-steps.halt k d) (c.in_ok-config.ensures.begun proc c.requires.fits.1) c.in_ok-steps.ensures.halted in
-    let halted = subst (λ h. IsHalted P (begun proc b) c.args.limit h k d) c.in-Stopped.is begins in
-    (proc, c.requires.fits.1, stopped P proc (begun proc b) c.args.limit k d c.in_ok-state.state well halted c.in_ok-state.ensures.state)
+    let same =
+    read_at c.args.typed.now c.program.result.now b.procedure c.from.result c.index-procedure.result.now proc
+    c.program.ensures.same c.from.ensures c.index-procedure.ensures c.requires.fits.1.numbered in
+    let well : HasPart proc.needs (store_of b.store) b.heap =
+    subst (λ q. HasPart q.needs (store_of b.store) b.heap) same
+    (c.in_ok-has_part.ensures.0 c.if-not-branch.false) in
+    let begins =
+    subst (λ x. IsHalted P x c.args.limit c.in_ok-steps.halt k d)
+    (c.in_ok-config.ensures.begun proc c.requires.fits.1) c.in_ok-steps.ensures.halted in
+    let halted = subst (λ h. IsHalted P (begun proc b) c.args.limit h k d) c.in-Stopped.is begins in (
+      proc,
+      c.requires.fits.1,
+      stopped P proc (begun proc b) c.args.limit k d c.in_ok-state.state well halted c.in_ok-state.ensures.state,
+    )
 
 pub returns-in-Faulted : goal.returns-in-Faulted
 returns-in-Faulted c =
@@ -51,11 +63,20 @@ returns-in-Faulted c =
     let P = program_of c.args.typed.now in
     let d = config_of c.run_ruled.new.config in
     let k = c.in_ok-steps.steps in
-    let same = read_at c.args.typed.now c.program.result.now b.procedure c.from.result c.index-procedure.result.now proc c.program.ensures.same c.from.ensures c.index-procedure.ensures c.requires.fits.1.numbered in
-    let well : HasPart proc.needs (store_of b.store) b.heap = subst (λ q. HasPart q.needs (store_of b.store) b.heap) same (c.in_ok-has_part.ensures.0 c.if-not-branch.false) in
-    let begins = subst (λ x. IsHalted P x c.args.limit c.in_ok-steps.halt k d) (c.in_ok-config.ensures.begun proc c.requires.fits.1) c.in_ok-steps.ensures.halted in
-    let halted = subst (λ h. IsHalted P (begun proc b) c.args.limit h k d) c.in-Faulted.is begins in
-    (proc, c.requires.fits.1, faulted P proc (begun proc b) c.args.limit k d c.in_ok-state.state well halted c.in_ok-state.ensures.state)
+    let same =
+    read_at c.args.typed.now c.program.result.now b.procedure c.from.result c.index-procedure.result.now proc
+    c.program.ensures.same c.from.ensures c.index-procedure.ensures c.requires.fits.1.numbered in
+    let well : HasPart proc.needs (store_of b.store) b.heap =
+    subst (λ q. HasPart q.needs (store_of b.store) b.heap) same
+    (c.in_ok-has_part.ensures.0 c.if-not-branch.false) in
+    let begins =
+    subst (λ x. IsHalted P x c.args.limit c.in_ok-steps.halt k d)
+    (c.in_ok-config.ensures.begun proc c.requires.fits.1) c.in_ok-steps.ensures.halted in
+    let halted = subst (λ h. IsHalted P (begun proc b) c.args.limit h k d) c.in-Faulted.is begins in (
+      proc,
+      c.requires.fits.1,
+      faulted P proc (begun proc b) c.args.limit k d c.in_ok-state.state well halted c.in_ok-state.ensures.state,
+    )
 
 pub returns : goal.returns
 returns c =
@@ -64,11 +85,22 @@ returns c =
     let P = program_of c.args.typed.now in
     let d = config_of c.run_ruled.new.config in
     let k = c.in_ok-steps.steps in
-    let same = read_at c.args.typed.now c.program.result.now b.procedure c.from.result c.index-procedure.result.now proc c.program.ensures.same c.from.ensures c.index-procedure.ensures c.requires.fits.1.numbered in
-    let well : HasPart proc.needs (store_of b.store) b.heap = subst (λ q. HasPart q.needs (store_of b.store) b.heap) same (c.in_ok-has_part.ensures.0 c.if-not-branch.false) in
-    let begins = subst (λ x. IsHalted P x c.args.limit c.in_ok-steps.halt k d) (c.in_ok-config.ensures.begun proc c.requires.fits.1) c.in_ok-steps.ensures.halted in
+    let same =
+    read_at c.args.typed.now c.program.result.now b.procedure c.from.result c.index-procedure.result.now proc
+    c.program.ensures.same c.from.ensures c.index-procedure.ensures c.requires.fits.1.numbered in
+    let well : HasPart proc.needs (store_of b.store) b.heap =
+    subst (λ q. HasPart q.needs (store_of b.store) b.heap) same
+    (c.in_ok-has_part.ensures.0 c.if-not-branch.false) in
+    let begins =
+    subst (λ x. IsHalted P x c.args.limit c.in_ok-steps.halt k d)
+    (c.in_ok-config.ensures.begun proc c.requires.fits.1) c.in_ok-steps.ensures.halted in
     let halted = subst (λ h. IsHalted P (begun proc b) c.args.limit h k d) c.in-Ended.is begins in
     let met = c.in_ok-met-in-Ended.met in
     let s = c.in_ok-state.state in
-    let tells = subst (λ q. IsTrue met ↔ Replaced q.needs (store_of b.store) b.heap (MeetsOneOf q.gives (store_of s.store)) s.heap) same c.in_ok-met-in-Ended.ensures in
-    (proc, c.requires.fits.1, ended P proc (begun proc b) c.args.limit k d s met well halted c.in_ok-state.ensures.state tells)
+    let tells = subst (λ q. IsTrue met
+    ↔ Replaced q.needs (store_of b.store) b.heap (MeetsOneOf q.gives (store_of s.store)) s.heap) same
+    c.in_ok-met-in-Ended.ensures in (
+      proc,
+      c.requires.fits.1,
+      ended P proc (begun proc b) c.args.limit k d s met well halted c.in_ok-state.ensures.state tells,
+    )

@@ -12,10 +12,9 @@ pub returns-clause-propagates : goal.returns-clause-propagates
 returns-clause-propagates c =
     let d = c.args.database.now in
     elim c.else-count-gt0.branch [
-      | else-count-gt0-via-then-count-gt0+else-look w ↦ rw (w.trail-is, w.hints-is) w.look.ensures.propagates
+      | else-count-gt0-via-then-count-gt0+else-look w ↦ rw w.trail-is w.look.ensures.propagates
       | else-count-gt0-via-else-count-gt0 w ↦
-          rw (w.trail-is, w.hints-is) (propagates_not d c.args.level c.args.trail.now c.args.hints.now
-          c.requires.ready.valid)
+          rw w.trail-is (propagates_not d c.args.level c.args.trail.now c.requires.ready.valid)
     ]
 
 pub returns-clause-last : goal.returns-clause-last

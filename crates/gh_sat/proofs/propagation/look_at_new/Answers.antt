@@ -1,6 +1,4 @@
-use Rattle.std.proofs.Common.{arith, inl, inr, subst}
-use Rattle.gh_base.specs.declared.sizes.Sizes.{Sizes}
-use Rattle.gh_sat.specs.Status.{IsGuarded}
+use Rattle.std.proofs.Common.{arith, inl, inr}
 use Rattle.gh_sat.proofs.WatchLemmas.{guarded_looked}
 use Rattle.gh_sat.proofs.PropagationLemmas.{propagates_not, propagates_on, propagates_long, propagates_guarded}
 use Rattle.gh_sat.proofs.PropagationLemmas.{ready_on}
@@ -8,7 +6,7 @@ use Rattle.gh_sat.proofs.propagation.look_at_new.Goals as goal
 
 pub loop-looked-init : goal.loop-looked-init
 loop-looked-init c = record {
-  propagates = propagates_not c.args.database.now c.args.level c.args.trail.now c.args.hints.now c.requires.ready.valid;
+  propagates = propagates_not c.args.database.now c.args.level c.args.trail.now c.requires.ready.valid;
   within = c.requires.looked;
   guarded = λ head h w. w;
 }
@@ -16,24 +14,22 @@ loop-looked-init c = record {
 pub look-requires-clause-ready : goal.look-requires-clause-ready
 look-requires-clause-ready c =
     let l = c.loop-looked in
-    ready_on c.args.database.now c.args.level c.args.trail.now l.trail c.args.hints.now l.hints c.requires.ready
-    l.invariant.propagates
+    ready_on c.args.database.now c.args.level c.args.trail.now l.trail c.requires.ready l.invariant.propagates
 
 pub returns-then-look-clause-propagates : goal.returns-then-look-clause-propagates
 returns-then-look-clause-propagates c =
     let l = c.loop-looked in
-    propagates_on c.args.database.now c.args.level c.args.trail.now l.trail c.look.new.trail c.args.hints.now l.hints
-    c.look.new.hints l.invariant.propagates c.look.ensures.propagates
+    propagates_on c.args.database.now c.args.level c.args.trail.now l.trail c.look.new.trail l.invariant.propagates
+    c.look.ensures.propagates
 
 pub returns-then-look-clause-guarded : goal.returns-then-look-clause-guarded
 returns-then-look-clause-guarded c = λ head h w.
     let l = c.loop-looked in
     let i = l.invariant in
     let d = c.args.database.now in
-    propagates_guarded d c.args.level c.args.trail.now.sizes l.trail c.look.new.trail l.hints c.look.new.hints head
-    l.looked i.propagates.sizes
-    (propagates_long d c.args.level c.args.trail.now l.trail c.args.hints.now l.hints head h i.propagates)
-    c.look.ensures.propagates (i.guarded head h w)
+    propagates_guarded d c.args.level l.trail c.look.new.trail head l.looked
+    (propagates_long d c.args.level c.args.trail.now l.trail head h i.propagates) c.look.ensures.propagates
+    (i.guarded head h w)
 
 pub loop-looked-preserved : goal.loop-looked-preserved
 loop-looked-preserved c =
@@ -42,17 +38,16 @@ loop-looked-preserved c =
     let d = c.args.database.now in
     let new = c.look.new in
     record {
-      propagates = propagates_on d c.args.level c.args.trail.now l.trail new.trail c.args.hints.now l.hints new.hints
-          i.propagates c.look.ensures.propagates;
+      propagates = propagates_on d c.args.level c.args.trail.now l.trail new.trail i.propagates
+          c.look.ensures.propagates;
       within = omega arith;
       guarded = λ head h w.
-          guarded_looked c.args.trail.now.sizes d.clauses.now new.hints new.trail.steps head l.looked
-          (λ e x at has. elim (c.look.ensures.guarded e x at has) [
+          guarded_looked d.clauses.now new.trail.steps head l.looked
+          (λ e at. elim (c.look.ensures.guarded e at) [
             | inl t ↦ absurd (let f = c.if-look.false in cc)
-            | inr g ↦ subst (λ (z : Sizes). IsGuarded z new.trail.steps new.trail.steps e x) i.propagates.sizes g
+            | inr g ↦ g
           ])
-          (propagates_guarded d c.args.level c.args.trail.now.sizes l.trail new.trail l.hints new.hints head l.looked
-          i.propagates.sizes
-          (propagates_long d c.args.level c.args.trail.now l.trail c.args.hints.now l.hints head h i.propagates)
+          (propagates_guarded d c.args.level l.trail new.trail head l.looked
+          (propagates_long d c.args.level c.args.trail.now l.trail head h i.propagates)
           c.look.ensures.propagates (i.guarded head h w));
     }

@@ -1,11 +1,9 @@
-use Rattle.std.proofs.Common.{◌≡◌, ◌*◌, ◌∙◌, ℕ, List, Bool, true, Option, Some, None, arith, ap, refl, sym, subst}
-use Rattle.std.proofs.Common.{length}
+use Rattle.std.proofs.Common.{◌≡◌, ◌*◌, ◌∙◌, ℕ, List, Bool, true, Option, Some, None, arith, ap, sym, subst, length}
 use Rattle.std.specs.Prelude.{slice_get, IfNone}
 use Rattle.std.specs.Option.{is_some}
 use Rattle.gh_base.specs.declared.atom.Lit.{Lit}
 use Rattle.gh_base.specs.declared.sizes.Sizes.{Sizes}
 use Rattle.gh_base.specs.Atoms.{count_of}
-use Rattle.gh_sat.specs.declared.status.Hint.{Hint}
 use Rattle.gh_sat.specs.Trail.{Line, AreSteps}
 use Rattle.gh_sat.specs.Status.{IsFalseOrUnit}
 use Rattle.gh_sat.specs.Watch.{AreGuarded, AreListed}
@@ -20,76 +18,68 @@ none_of (Some x) b P e n h = absurd (n e)
 pub returns-then-is_some-clause-head : goal.returns-then-is_some-clause-head
 returns-then-is_some-clause-head c =
     let one = c.look_at_last-conflict in
-    propagates_long c.args.database.now c.args.level c.args.trail.now one.new.trail c.args.hints.now one.new.hints
-    c.args.head.now c.requires.head one.ensures.propagates
+    propagates_long c.args.database.now c.args.level c.args.trail.now one.new.trail c.args.head.now c.requires.head
+    one.ensures.propagates
 
 pub returns-then-is_some-clause-guarded : goal.returns-then-is_some-clause-guarded
 returns-then-is_some-clause-guarded c =
     let one = c.look_at_last-conflict in
-    propagates_guarded c.args.database.now c.args.level c.args.trail.now.sizes c.args.trail.now one.new.trail
-    c.args.hints.now one.new.hints c.args.head.now c.args.looked.now refl c.requires.head one.ensures.propagates
-    c.requires.guarded
+    propagates_guarded c.args.database.now c.args.level c.args.trail.now one.new.trail c.args.head.now c.args.looked.now
+    c.requires.head one.ensures.propagates c.requires.guarded
 
 pub look_at_new-conflict-requires-clause-ready : goal.look_at_new-conflict-requires-clause-ready
 look_at_new-conflict-requires-clause-ready c =
     let one = c.look_at_last-conflict in
-    ready_on c.args.database.now c.args.level c.args.trail.now one.new.trail c.args.hints.now one.new.hints
-    c.requires.ready one.ensures.propagates
+    ready_on c.args.database.now c.args.level c.args.trail.now one.new.trail c.requires.ready one.ensures.propagates
 
 pub returns-then-is_some-2-clause-propagates : goal.returns-then-is_some-2-clause-propagates
 returns-then-is_some-2-clause-propagates c =
     let one = c.look_at_last-conflict in
     let two = c.look_at_new-conflict in
-    propagates_on c.args.database.now c.args.level c.args.trail.now one.new.trail two.new.trail c.args.hints.now
-    one.new.hints two.new.hints one.ensures.propagates two.ensures.propagates
+    propagates_on c.args.database.now c.args.level c.args.trail.now one.new.trail two.new.trail one.ensures.propagates
+    two.ensures.propagates
 
 pub returns-then-is_some-2-clause-head : goal.returns-then-is_some-2-clause-head
 returns-then-is_some-2-clause-head c =
-    let two = c.look_at_new-conflict in
-    propagates_long c.args.database.now c.args.level c.args.trail.now two.new.trail c.args.hints.now two.new.hints
-    c.args.head.now c.requires.head (returns-then-is_some-2-clause-propagates c)
+    propagates_long c.args.database.now c.args.level c.args.trail.now c.look_at_new-conflict.new.trail c.args.head.now
+    c.requires.head (returns-then-is_some-2-clause-propagates c)
 
 pub returns-then-is_some-2-clause-guarded : goal.returns-then-is_some-2-clause-guarded
 returns-then-is_some-2-clause-guarded c =
     let d = c.args.database.now in
     let one = c.look_at_last-conflict in
-    let two = c.look_at_new-conflict in
     let a = one.ensures.propagates in
-    subst (λ (z : Sizes). AreGuarded z d.clauses.now two.new.hints two.new.trail.steps c.args.head.now two.new.looked)
-    a.sizes
-    (two.ensures.guarded c.args.head.now
-    (propagates_long d c.args.level c.args.trail.now one.new.trail c.args.hints.now one.new.hints c.args.head.now
-    c.requires.head a)
-    (subst (λ (z : Sizes). AreGuarded z d.clauses.now one.new.hints one.new.trail.steps c.args.head.now
-    c.args.looked.now) (sym a.sizes)
-    (propagates_guarded d c.args.level c.args.trail.now.sizes c.args.trail.now one.new.trail c.args.hints.now
-    one.new.hints c.args.head.now c.args.looked.now refl c.requires.head a c.requires.guarded)))
+    c.look_at_new-conflict.ensures.guarded c.args.head.now
+    (propagates_long d c.args.level c.args.trail.now one.new.trail c.args.head.now c.requires.head a)
+    (propagates_guarded d c.args.level c.args.trail.now one.new.trail c.args.head.now c.args.looked.now c.requires.head
+    a
+    c.requires.guarded)
 
-pub follow-requires-clause-ready : goal.follow-requires-clause-ready
-follow-requires-clause-ready c =
+pub propagate_from-requires-clause-ready : goal.propagate_from-requires-clause-ready
+propagate_from-requires-clause-ready c =
     let d = c.args.database.now in
     let one = c.look_at_last-conflict in
     let two = c.look_at_new-conflict in
-    ready_on d c.args.level one.new.trail two.new.trail one.new.hints two.new.hints
-    (ready_on d c.args.level c.args.trail.now one.new.trail c.args.hints.now one.new.hints c.requires.ready
+    ready_on d c.args.level one.new.trail two.new.trail
+    (ready_on d c.args.level c.args.trail.now one.new.trail c.requires.ready one.ensures.propagates)
+    two.ensures.propagates
+
+pub propagate_from-requires-clause-head : goal.propagate_from-requires-clause-head
+propagate_from-requires-clause-head c =
+    let d = c.args.database.now in
+    let one = c.look_at_last-conflict in
+    let two = c.look_at_new-conflict in
+    propagates_long d c.args.level one.new.trail two.new.trail c.args.head.now
+    (propagates_long d c.args.level c.args.trail.now one.new.trail c.args.head.now c.requires.head
     one.ensures.propagates) two.ensures.propagates
 
-pub follow-requires-clause-head : goal.follow-requires-clause-head
-follow-requires-clause-head c =
-    let d = c.args.database.now in
-    let one = c.look_at_last-conflict in
-    let two = c.look_at_new-conflict in
-    propagates_long d c.args.level one.new.trail two.new.trail one.new.hints two.new.hints c.args.head.now
-    (propagates_long d c.args.level c.args.trail.now one.new.trail c.args.hints.now one.new.hints c.args.head.now
-    c.requires.head one.ensures.propagates) two.ensures.propagates
-
-pub follow-requires-clause-lists : goal.follow-requires-clause-lists
-follow-requires-clause-lists c =
+pub propagate_from-requires-clause-lists : goal.propagate_from-requires-clause-lists
+propagate_from-requires-clause-lists c =
     c.requires.lists ∙ ap (λ (s : Sizes). 2 * count_of s)
     (sym (c.look_at_new-conflict.ensures.propagates.sizes ∙ c.look_at_last-conflict.ensures.propagates.sizes))
 
-pub follow-requires-clause-listed : goal.follow-requires-clause-listed
-follow-requires-clause-listed c =
+pub propagate_from-requires-clause-listed : goal.propagate_from-requires-clause-listed
+propagate_from-requires-clause-listed c =
     let d = c.args.database.now in
     subst (λ (z : Sizes). AreListed z d.clauses.now d.occurrences.now)
     (sym (c.look_at_new-conflict.ensures.propagates.sizes ∙ c.look_at_last-conflict.ensures.propagates.sizes))
@@ -100,10 +90,10 @@ returns-clause-propagates c =
     let d = c.args.database.now in
     let one = c.look_at_last-conflict in
     let two = c.look_at_new-conflict in
-    let both = propagates_on d c.args.level c.args.trail.now one.new.trail two.new.trail c.args.hints.now one.new.hints
-    two.new.hints one.ensures.propagates two.ensures.propagates in
-    propagates_on d c.args.level c.args.trail.now two.new.trail c.follow.new.trail c.args.hints.now two.new.hints
-    c.follow.new.hints both c.follow.ensures.propagates
+    let both = propagates_on d c.args.level c.args.trail.now one.new.trail two.new.trail one.ensures.propagates
+    two.ensures.propagates in
+    propagates_on d c.args.level c.args.trail.now two.new.trail c.propagate_from.new.trail both
+    c.propagate_from.ensures.propagates
 
 pub returns-clause-guarded : goal.returns-clause-guarded
 returns-clause-guarded c =
@@ -111,27 +101,19 @@ returns-clause-guarded c =
     let one = c.look_at_last-conflict in
     let two = c.look_at_new-conflict in
     let a = one.ensures.propagates in
-    let b = two.ensures.propagates in
-    let before = two.ensures.guarded c.args.head.now
-    (propagates_long d c.args.level c.args.trail.now one.new.trail c.args.hints.now one.new.hints c.args.head.now
-    c.requires.head a)
-    (subst (λ (z : Sizes). AreGuarded z d.clauses.now one.new.hints one.new.trail.steps c.args.head.now
-    c.args.looked.now) (sym a.sizes)
-    (propagates_guarded d c.args.level c.args.trail.now.sizes c.args.trail.now one.new.trail c.args.hints.now
-    one.new.hints c.args.head.now c.args.looked.now refl c.requires.head a c.requires.guarded)) in
-    subst (λ (z : Sizes). AreGuarded z d.clauses.now c.follow.new.hints c.follow.new.trail.steps c.follow.new.head
-    two.new.looked) (b.sizes ∙ a.sizes)
-    (c.follow.ensures.guarded two.new.looked
-    (subst (λ (z : Sizes). AreGuarded z d.clauses.now two.new.hints two.new.trail.steps c.args.head.now two.new.looked)
-    (sym b.sizes) before))
+    c.propagate_from.ensures.guarded two.new.looked
+    (two.ensures.guarded c.args.head.now
+    (propagates_long d c.args.level c.args.trail.now one.new.trail c.args.head.now c.requires.head a)
+    (propagates_guarded d c.args.level c.args.trail.now one.new.trail c.args.head.now c.args.looked.now c.requires.head
+    a
+    c.requires.guarded))
 
-settled : (t : Line) (clauses : List (List Lit)) (hints : List Hint) (head looked : ℕ) (o : Option ℕ) → AreSteps t
-    → IfNone o (head ≡ length t.steps) → looked ≡ length clauses → length hints ≡ length clauses
-    → AreGuarded t.sizes clauses hints t.steps head looked
+settled : (t : Line) (clauses : List (List Lit)) (head looked : ℕ) (o : Option ℕ) → AreSteps t
+    → IfNone o (head ≡ length t.steps) → looked ≡ length clauses → AreGuarded clauses t.steps head looked
     → IfNone o ((k : ℕ) (c : List Lit) → slice_get clauses k ≡ Some c → IsFalseOrUnit t.steps c → ⊥)
-settled t clauses hints head looked None valid h e long w =
-    λ k c at bad. guarded_all t clauses hints head looked k c valid (omega (arith, h)) (omega (arith, e)) long w at bad
-settled t clauses hints head looked (Some x) valid h e long w = tt
+settled t clauses head looked None valid h e w =
+    λ k c at bad. guarded_all t clauses head looked k c valid (omega (arith, h)) (omega (arith, e)) w at bad
+settled t clauses head looked (Some x) valid h e w = tt
 
 pub returns-clause-settled : goal.returns-clause-settled
 returns-clause-settled c =
@@ -141,17 +123,15 @@ returns-clause-settled c =
     none_of two.result c.is_some-2.result _ c.is_some-2.ensures (λ e. let f = c.if-is_some-2.false in cc)
     two.ensures.all in
     let p = returns-clause-propagates c in
-    settled c.follow.new.trail d.clauses.now c.follow.new.hints c.follow.new.head two.new.looked c.follow.result p.valid
-    c.follow.ensures.all all (p.moves.long ∙ c.requires.ready.hinted)
-    (subst (λ (z : Sizes). AreGuarded z d.clauses.now c.follow.new.hints c.follow.new.trail.steps c.follow.new.head
-    two.new.looked) (sym p.sizes) (returns-clause-guarded c))
+    settled c.propagate_from.new.trail d.clauses.now c.propagate_from.new.head two.new.looked c.propagate_from.result
+    p.valid c.propagate_from.ensures.all all (returns-clause-guarded c)
 
 pub returns-clause-last : goal.returns-clause-last
 returns-clause-last c = λ before e u is i.
     let cs = c.args.database.now.clauses.now in
     let one = c.look_at_last-conflict in
     let two = c.look_at_new-conflict in
-    grown_from cs c.args.level c.args.trail.now.steps one.new.trail.steps c.follow.new.trail.steps _
+    grown_from cs c.args.level c.args.trail.now.steps one.new.trail.steps c.propagate_from.new.trail.steps _
     (one.ensures.last before e u is i)
-    (grows_on cs c.args.level one.new.trail.steps two.new.trail.steps c.follow.new.trail.steps
-    two.ensures.propagates.grows c.follow.ensures.propagates.grows)
+    (grows_on cs c.args.level one.new.trail.steps two.new.trail.steps c.propagate_from.new.trail.steps
+    two.ensures.propagates.grows c.propagate_from.ensures.propagates.grows)

@@ -4,7 +4,8 @@ use Rattle.gh_sat.specs.Learn.{marks_of}
 use Rattle.gh_base.proofs.ListLemmas.{get_some}
 use Rattle.gh_sat.proofs.ListLemmas.{lt_le}
 use Rattle.gh_sat.proofs.MarkLemmas.{marks_some}
-use Rattle.gh_sat.proofs.ResolveLemmas.{HasReason, false_before, resolved_none, clause_read, resolved_turn, reason_stands}
+use Rattle.gh_sat.proofs.ResolveLemmas.{HasReason, false_before, resolved_none, clause_read, resolved_turn}
+use Rattle.gh_sat.proofs.ResolveLemmas.{reason_stands}
 use Rattle.gh_sat.proofs.ReasonLemmas.{reason_read, reason_held}
 use Rattle.gh_sat.proofs.reasons.mark_reached.Goals as goal
 use Rattle.gh_sat.proofs.reasons.mark_reached.Goals.{In-Some}

@@ -12,8 +12,8 @@ use Rattle.gh_sat.proofs.search.refute.Goals.{In-Some}
 use Rattle.gh_sat.proofs.search.refute.Goals as goal
 
 -- the conflict is a clause of the theory, and false
-refuted : (g : Over) (c : In-Some g) → g.T.Theory.valid c.args.learner.now.sizes c.in-Some.clause
-    × IsFalseIn c.args.learner.now.trail c.in-Some.clause
+refuted : (g : Over) (c : In-Some g) → g.T.Theory.valid c.args.search.now.sizes c.in-Some.clause
+    × IsFalseIn c.args.search.now.trail c.in-Some.clause
 refuted g c =
     let clause = c.in-Some.clause in
     let found =
@@ -21,18 +21,18 @@ refuted g c =
     (λ x. g.T.Theory.valid (g.T.Theory.sizes c.args.theory.now) x
     × IsRefutedBy (g.T.Theory.asserted c.args.theory.now) x)) c.in-Some.is c.in_ok-conflict.ensures.found in (
       subst (λ z. g.T.Theory.valid z clause) c.requires.sizes found.0,
-      refuted_false c.args.learner.now.trail clause
+      refuted_false c.args.search.now.trail clause
           (subst (λ (a : List Lit). IsRefutedBy a clause) c.requires.told found.1),
     )
 
 pub insert-requires-clause-range : goal.insert-requires-clause-range
 insert-requires-clause-range g c =
     let r = refuted g (goal.at.insert-requires-clause-range g c).In-Some in
-    false_in_range c.args.learner.now c.in-Some.clause c.requires.sound r.1
+    false_in_range c.args.search.now c.in-Some.clause c.requires.sound r.1
 
 pub returns-in-None-clause-none : goal.returns-in-None-clause-none
 returns-in-None-clause-none g c =
-    let s = c.args.learner.now in
+    let s = c.args.search.now in
     let none =
     subst (λ (o : Option (List Lit)). IfNone o
     ((x : List Lit) → g.T.Theory.valid (g.T.Theory.sizes c.args.theory.now) x
@@ -42,7 +42,7 @@ returns-in-None-clause-none g c =
 
 pub returns-in_ok-insert-in-Some-clause-conflict : goal.returns-in_ok-insert-in-Some-clause-conflict
 returns-in_ok-insert-in-Some-clause-conflict g c =
-    let s = c.args.learner.now in
+    let s = c.args.search.now in
     let r = refuted g (goal.at.returns-in_ok-insert-in-Some-clause-conflict g c).In-Some in
     let h = conflict_added s c.in-Some.clause c.requires.sound r.1
     (λ level start at f. c.requires.consistent level start at c.in-Some.clause r.0 f) in
@@ -51,7 +51,7 @@ returns-in_ok-insert-in-Some-clause-conflict g c =
 
 pub returns-in_ok-insert-in-Some-clause-sound : goal.returns-in_ok-insert-in-Some-clause-sound
 returns-in_ok-insert-in-Some-clause-sound g c =
-    let s = c.args.learner.now in
+    let s = c.args.search.now in
     let r = refuted g (goal.at.returns-in_ok-insert-in-Some-clause-sound g c).In-Some in
     let range = false_in_range s c.in-Some.clause c.requires.sound r.1 in
     subst IsSound (sym c.in_ok-insert-in-Some.ensures.ok) (sound_add s c.in-Some.clause c.requires.sound range)

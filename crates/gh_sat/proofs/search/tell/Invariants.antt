@@ -6,7 +6,7 @@ abbrev pub invariant-loop-place : goal.invariant-loop-place
 invariant-loop-place g l = record {
   within : l.place ≤ length l.steps;
   told : g.T.Theory.asserted l.theory ≡ lits_of (take l.place l.steps);
-  sizes : g.T.Theory.sizes l.theory ≡ l.learner.sizes;
+  sizes : g.T.Theory.sizes l.theory ≡ l.search.sizes;
 }
 
 abbrev pub decreases-loop-place : goal.decreases-loop-place

@@ -8,5 +8,12 @@ returns-in_ok-text-in-Shown c =
     let P = program_of c.args.typed.now in
     let n = c.args.drawing.now.condition in
     let xs = c.args.drawing.now.trace.states.items in
-    let sketch : IsSketch P n xs (Shown c.in-Shown.scene) = rw c.in-Shown.is at c.in_ok-scene.ensures in
-    (sketch.0, sketch.1, record { scene = c.in-Shown.scene; of_states = sketch.2; picture = c.in_ok-text-in-Shown.ensures })
+    let sketch : IsSketch P n xs (Shown c.in-Shown.scene) = rw c.in-Shown.is at c.in_ok-scene.ensures in (
+      sketch.0,
+      sketch.1,
+      record {
+        scene = c.in-Shown.scene;
+        of_states = sketch.2;
+        picture = c.in_ok-text-in-Shown.ensures;
+      },
+    )

@@ -11,5 +11,9 @@ returns c =
     let ls = loops_of (procedure_of c.args.setting.procedure.now) in
     let s = step_of c.args.step.now in
     let place : c.step_place.result ≡ step_place ls s = c.step_place.ensures ∙ ap (λ ms. step_place ms s) c.requires in
-    let step : c.push_step.new.text ≡ c.push_line.new.text ++ step_text P s = c.in_ok-push_step.ensures ∙ ap (λ q. c.push_line.new.text ++ step_text (program_of q) s) c.program.ensures.same in
-    step ∙ ap (λ t. t ++ step_text P s) (c.in_ok-push_line.ensures ∙ ap (λ o. c.new-text.result ++ line_text o) place ∙ ap (λ t. t ++ line_text (step_place ls s)) c.new-text.ensures)
+    let step : c.push_step.new.text ≡ c.push_line.new.text ++ step_text P s =
+    c.in_ok-push_step.ensures
+    ∙ ap (λ q. c.push_line.new.text ++ step_text (program_of q) s) c.program.ensures.same in
+    step ∙ ap (λ t. t ++ step_text P s)
+    (c.in_ok-push_line.ensures ∙ ap (λ o. c.new-text.result ++ line_text o) place
+    ∙ ap (λ t. t ++ line_text (step_place ls s)) c.new-text.ensures)

@@ -11,4 +11,5 @@ returns-in-LoopEnd c =
     let p = procedure_of c.args.setting.procedure.now in
     let x = state_of c.args.state.now in
     IfOk-weaker c.left_of_round.result _ (IsSpareAt c.args.setting c.args.kind.now c.args.state.now)
-    (λ rest left at. subst (λ k. IsSpare p (asked_at k at) x rest) (sym c.in-LoopEnd.is) (left at)) c.left_of_round.ensures
+    (λ rest left at. subst (λ k. IsSpare p (asked_at k at) x rest) (sym c.in-LoopEnd.is) (left at))
+    c.left_of_round.ensures

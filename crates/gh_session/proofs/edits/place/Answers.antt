@@ -8,11 +8,13 @@ pub returns-in-Some : goal.returns-in-Some
 returns-in-Some c =
     placed_there c.args.edit c.args.pieces.now.items c.in-Some.at
     (ap (λ n. position (λ (q : Bor Edit). bytes_eq q.now.name n) c.args.pieces.now.items) (sym c.bytes.ensures.text)
-    ∙ ap (position (λ (q : Bor Edit). bytes_eq q.now.name c.bytes.result.now)) (sym c.as_slice.ensures.value) ∙ sym c.place_of.ensures ∙ c.in-Some.is)
+    ∙ ap (position (λ (q : Bor Edit). bytes_eq q.now.name c.bytes.result.now)) (sym c.as_slice.ensures.value)
+    ∙ sym c.place_of.ensures ∙ c.in-Some.is)
 
 pub returns-in_ok-push-in-None : goal.returns-in_ok-push-in-None
 returns-in_ok-push-in-None c =
     rw c.in_ok-push-in-None.ensures.items
     (placed_last c.args.edit c.args.pieces.now.items
     (ap (λ n. position (λ (q : Bor Edit). bytes_eq q.now.name n) c.args.pieces.now.items) (sym c.bytes.ensures.text)
-    ∙ ap (position (λ (q : Bor Edit). bytes_eq q.now.name c.bytes.result.now)) (sym c.as_slice.ensures.value) ∙ sym c.place_of.ensures ∙ c.in-None.is))
+    ∙ ap (position (λ (q : Bor Edit). bytes_eq q.now.name c.bytes.result.now)) (sym c.as_slice.ensures.value)
+    ∙ sym c.place_of.ensures ∙ c.in-None.is))

@@ -14,7 +14,8 @@ pub unreachable-requires : goal.unreachable-requires
 unreachable-requires c =
     let r = c.args.condition.now in
     has_procedure (program_of c.args.typed.now) r c.requires
-    (subst (λ (P : whole.Program). slice_get (program_of P).procedures r.procedure ≡ None) c.program-program.ensures.same c.in_default.ensures.none)
+    (subst (λ (P : whole.Program). slice_get (program_of P).procedures r.procedure ≡ None)
+    c.program-program.ensures.same c.in_default.ensures.none)
 
 pub returns : goal.returns
 returns c =
@@ -23,7 +24,10 @@ returns c =
     let proc = procedure_of c.in-Some.procedure.now in
     let e = c.in_ok-essence_in.field-0 in
     let same = c.program-program.ensures.same in
-    let of : IsOf P (condition_of r) proc = subst (λ (Q : whole.Program). IsProcedureAt (program_of Q) r.procedure proc) same c.in-Some.ensures.some in
-    let typed : IsTyped P = subst (λ (Q : whole.Program). IsTyped (program_of Q)) same c.program-program.ensures.typed in
-    let told : IsEssenceIn P proc r e = subst (λ (Q : whole.Program). IsEssenceIn (program_of Q) proc r e) same c.in_ok-essence_in.ensures in
+    let of : IsOf P (condition_of r) proc =
+    subst (λ (Q : whole.Program). IsProcedureAt (program_of Q) r.procedure proc) same c.in-Some.ensures.some in
+    let typed : IsTyped P =
+    subst (λ (Q : whole.Program). IsTyped (program_of Q)) same c.program-program.ensures.typed in
+    let told : IsEssenceIn P proc r e =
+    subst (λ (Q : whole.Program). IsEssenceIn (program_of Q) proc r e) same c.in_ok-essence_in.ensures in
     record { typed = typed; one = c.requires; procedure = proc; of = of; is = sym told }

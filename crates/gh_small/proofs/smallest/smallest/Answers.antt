@@ -13,8 +13,10 @@ returns-in-Refutation c =
     let P = program_of c.args.typed.now in
     let r = c.args.condition.now in
     let proc = c.in_ok-ground.ground in
-    let ground : IsGroundOf P r proc = λ q of. c.in_ok-ground.ensures.told P q (condition_of r) (c.in_ok-symbolic.ensures q of) in
-    let is : IsAnswer proc (Refutation c.in-Refutation.field-0) = rw c.in-Refutation.is at c.in_ok-answer.ensures.answer in
+    let ground : IsGroundOf P r proc =
+    λ q of. c.in_ok-ground.ensures.told P q (condition_of r) (c.in_ok-symbolic.ensures q of) in
+    let is : IsAnswer proc (Refutation c.in-Refutation.field-0) =
+    rw c.in-Refutation.is at c.in_ok-answer.ensures.answer in
     (shown P r proc c.in-Refutation.field-0 c.requires.admitted.typed c.requires.one ground is).valid
 
 pub descend-requires : goal.descend-requires
@@ -28,6 +30,8 @@ returns c =
     let P = program_of c.args.typed.now in
     let r = c.args.condition.now in
     let proc = c.in_ok-ground.ground in
-    let ground : IsGroundOf P r proc = λ q of. c.in_ok-ground.ensures.told P q (condition_of r) (c.in_ok-symbolic.ensures q of) in
-    smallest_found P r proc c.in_ok-fewest-in-Model.fewest c.in_ok-trace-in-Model.trace c.requires.admitted.typed ground c.sizes-sizes.ensures.valid c.in_ok-fewest-in-Model.ensures.fewest
+    let ground : IsGroundOf P r proc =
+    λ q of. c.in_ok-ground.ensures.told P q (condition_of r) (c.in_ok-symbolic.ensures q of) in
+    smallest_found P r proc c.in_ok-fewest-in-Model.fewest c.in_ok-trace-in-Model.trace c.requires.admitted.typed ground
+    c.sizes-sizes.ensures.valid c.in_ok-fewest-in-Model.ensures.fewest
     c.in_ok-trace-in-Model.ensures c.requires.one

@@ -19,7 +19,9 @@ loop-name-preserved c =
     let n = c.args.terms in let v = c.args.versions in
     let next = (c.in-Some.ensures {u = tt}).steps in
     record {
-      left = one_instance _ c.loop-name.asserted.items c.push.new.self.items c.loop-name.name-iterator c.next.new.self c.in-Some.name c.in-Some-instance.clause c.loop-name.invariant.left next
+      left = one_instance _ c.loop-name.asserted.items c.push.new.self.items c.loop-name.name-iterator c.next.new.self
+          c.in-Some.name c.in-Some-instance.clause c.loop-name.invariant.left next
           (c.in-Some-instance.ensures {u = tt}).clause c.in_ok-push.ensures.items;
-      are = All-tail (IsInstance n v) c.in-Some.name c.next.new.self (subst (All (IsInstance n v)) next c.loop-name.invariant.are);
+      are = All-tail (IsInstance n v) c.in-Some.name c.next.new.self
+          (subst (All (IsInstance n v)) next c.loop-name.invariant.are);
     }

@@ -3,4 +3,5 @@ use Rattle.gh_smt.proofs.Adding.{one_more}
 use Rattle.gh_smt.proofs.writing.put_all_declared.Goals as goal
 
 pub loop-number-preserved : goal.loop-number-preserved
-loop-number-preserved c = one_more (declared_text c.args.kind) _ _ _ c.loop-number.number c.loop-number.invariant c.in_ok-put_declared.ensures
+loop-number-preserved c =
+    one_more (declared_text c.args.kind) _ _ _ c.loop-number.number c.loop-number.invariant c.in_ok-put_declared.ensures

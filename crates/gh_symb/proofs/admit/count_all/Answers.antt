@@ -11,7 +11,8 @@ use Rattle.gh_path.proofs.GivenLemmas.{lent_one, lent_on, lent_none}
 use Rattle.gh_symb.specs.Limits.{HasTerms, Passes}
 use Rattle.gh_symb.specs.Met.{IsMet}
 use Rattle.gh_symb.specs.Steps.{IsCount}
-use Rattle.gh_symb.proofs.AdmitLemmas.{ManyTerms, ManyVersions, its_count, one_more, met_more, first_passed, none_has, few_terms, many_terms, number_at, numbered_is_scoped, counts_more}
+use Rattle.gh_symb.proofs.AdmitLemmas.{ManyTerms, ManyVersions, its_count, one_more, met_more, first_passed, none_has}
+use Rattle.gh_symb.proofs.AdmitLemmas.{few_terms, many_terms, number_at, numbered_is_scoped, counts_more}
 use Rattle.gh_symb.proofs.admit.count_all.Goals as goal
 use Rattle.gh_symb.proofs.admit.count_all.Goals.{After-condition-condition}
 
@@ -28,20 +29,25 @@ unreachable-requires c =
     let P = program_of c.args.typed.now in
     let k = c.loop-place.place in
     lent_none P c.loop-place.walk c.advance.new.self k c.advance.result c.in_ok-more.more c.in_ok-more.was
-    c.if-not-more.true c.loop-place.invariant.before (omega (arith, c.requires.number, c.loop-place-test.true)) c.advance.ensures.next
+    c.if-not-more.true c.loop-place.invariant.before (omega (arith, c.requires.number, c.loop-place-test.true))
+    c.advance.ensures.next
 
 -- the condition that the walk lends is the one at its place
-lent : (c : After-condition-condition) → IsNumbered (program_of c.args.typed.now) (c.loop-place.place + 1) (Some c.condition-condition.result.now)
+lent : (c : After-condition-condition)
+    → IsNumbered (program_of c.args.typed.now) (c.loop-place.place + 1) (Some c.condition-condition.result.now)
 lent c =
-    lent_one (program_of c.args.typed.now) c.loop-place.walk c.advance.new.self c.loop-place.place c.advance.result c.in_ok-more.more
-    c.condition-condition.result.now c.in_ok-more.was c.if-not-more.false c.condition-condition.ensures c.loop-place.invariant.before
+    lent_one (program_of c.args.typed.now) c.loop-place.walk c.advance.new.self c.loop-place.place c.advance.result
+    c.in_ok-more.more
+    c.condition-condition.result.now c.in_ok-more.was c.if-not-more.false c.condition-condition.ensures
+    c.loop-place.invariant.before
     c.advance.ensures.next
 
 -- it is a condition of the program, with its procedure
 scoped : (c : After-condition-condition) → IsScoped (program_of c.args.typed.now) c.condition-condition.result.now
 scoped c =
     let P = program_of c.args.typed.now in
-    let typed : IsTyped P = subst (λ Q. IsTyped (program_of Q)) c.program-program.ensures.same c.program-program.ensures.typed in
+    let typed : IsTyped P =
+    subst (λ Q. IsTyped (program_of Q)) c.program-program.ensures.same c.program-program.ensures.typed in
     numbered_is_scoped P (c.loop-place.place + 1) c.condition-condition.result.now typed (lent c)
 
 pub counted-requires : goal.counted-requires
@@ -59,7 +65,8 @@ returns-in-Some-clause-refused c =
     let is = scoped at in
     let proc = is.0 in
     let d = condition_of r in
-    let passes : Passes P proc d c.limit_of-passed.result = c.limit_of-passed.ensures proc is.1 (c.in_ok-found.ensures proc is.1) in
+    let passes : Passes P proc d c.limit_of-passed.result =
+    c.limit_of-passed.ensures proc is.1 (c.in_ok-found.ensures proc is.1) in
     let many = many_terms P proc d c.limit_of-passed.result c.in-Some.limit passes c.in-Some.ensures in
     inl (first_passed P (ManyTerms P) (k + 1) 6 (most_terms + 1) c.in-Some.limit
     (record {
@@ -94,7 +101,8 @@ loop-place-preserved c =
       before = lent_on P s t k c.advance.result c.in_ok-more.more c.in_ok-more.was c.if-not-more.false
           c.loop-place.invariant.before c.advance.ensures.next;
       few = one_more P (HasTerms P) k d proc here is.1 c.loop-place.invariant.few few;
-      late = rw c.earlier-late.ensures (met_more P k d proc c.loop-place.late passed here is.1 passes few c.loop-place.invariant.late);
+      late = rw c.earlier-late.ensures
+          (met_more P k d proc c.loop-place.late passed here is.1 passes few c.loop-place.invariant.late);
       counts = λ none. counts_more P k d proc c.loop-place.late passed c.loop-place.counts.items c.add.new.counts.items
           c.count.result here is.1 passes (λ keeps. c.count.ensures.kept P proc d counted keeps) c.in_ok-add.ensures
           c.loop-place.invariant.counts (sym c.earlier-late.ensures ∙ none);
@@ -106,7 +114,10 @@ returns-in-Some-late-clause-refused c =
     let k = c.loop-place.place in
     let all : length (conditions P) ≤ k = omega (arith, c.requires.number, c.loop-place-test.false) in
     let met : IsMet P k (Some c.in-Some-late.limit) = rw c.in-Some-late.is at c.loop-place.invariant.late in
-    inr (none_has P (ManyTerms P) k all c.loop-place.invariant.few, first_passed P (ManyVersions P) k 7 (most_versions + 1) c.in-Some-late.limit met)
+    inr (
+      none_has P (ManyTerms P) k all c.loop-place.invariant.few,
+      first_passed P (ManyVersions P) k 7 (most_versions + 1) c.in-Some-late.limit met,
+    )
 
 pub returns-in-None-clause-terms : goal.returns-in-None-clause-terms
 returns-in-None-clause-terms c =

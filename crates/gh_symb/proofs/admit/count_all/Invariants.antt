@@ -12,5 +12,6 @@ invariant-loop-place l = record {
   before : IsWalkBefore (program_of l.typed) l.walk (drop l.place (conditions (program_of l.typed)));
   few : NoneMet (program_of l.typed) (HasTerms (program_of l.typed)) l.place;
   late : IsMet (program_of l.typed) l.place l.late;
-  counts : l.late ≡ None → l.counts.items ≡ map (its_count (program_of l.typed)) (take l.place (conditions (program_of l.typed)));
+  counts : l.late ≡ None → l.counts.items
+      ≡ map (its_count (program_of l.typed)) (take l.place (conditions (program_of l.typed)));
 }

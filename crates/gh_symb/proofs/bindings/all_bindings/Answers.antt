@@ -14,9 +14,12 @@ loop-state-preserved c =
     let ss = c.args.states.now in
     let i = c.loop-state.state-index in
     let item = c.state-item.result in
-    let more : take (i + 1) ss ≡ take i ss ++ item ∷ [] = take_more ss i item c.loop-state-test.true ∙ ap (λ e. take i ss ++ e ∷ []) (sym c.state-item.is) in
-    let all : map f (take (i + 1) ss) ≡ map f (take i ss) ++ f item ∷ [] = ap (map f) more ∙ map-append f (take i ss) (item ∷ []) in
+    let more : take (i + 1) ss ≡ take i ss ++ item ∷ [] =
+    take_more ss i item c.loop-state-test.true ∙ ap (λ e. take i ss ++ e ∷ []) (sym c.state-item.is) in
+    let all : map f (take (i + 1) ss) ≡ map f (take i ss) ++ f item ∷ [] =
+    ap (map f) more ∙ map-append f (take i ss) (item ∷ []) in
     subst (Each EncodesBinding c.push.new.self.items) (sym all)
     (subst (λ bs. Each EncodesBinding bs (map f (take i ss) ++ f item ∷ [])) (sym c.in_ok-push.ensures.items)
     (each_more EncodesBinding c.loop-state.bindings.items (map f (take i ss)) _ (f item) c.loop-state.invariant
-    (λ x. either_encoded (bound_by item x) (bound_by c.args.firsts.now x) _ _ (c.in_ok-over.ensures x) (c.in_ok-others.ensures x))))
+    (λ x. either_encoded (bound_by item x) (bound_by c.args.firsts.now x) _ _ (c.in_ok-over.ensures x)
+    (c.in_ok-others.ensures x))))

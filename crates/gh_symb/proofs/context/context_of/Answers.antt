@@ -16,4 +16,8 @@ returns c =
     let same = c.program-program.ensures.same in
     let q = c.index-procedure.result.now in
     let of = scoped_of T c.program-program.result.now r q same c.requires c.index-procedure.ensures in
-    record { program = ap program_of same; of = of; there = scoped_there (program_of T) r (procedure_of q) c.requires of }
+    record {
+      program = ap program_of same;
+      of = of;
+      there = scoped_there (program_of T) r (procedure_of q) c.requires of;
+    }

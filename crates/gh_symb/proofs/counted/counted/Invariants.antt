@@ -9,5 +9,6 @@ use Rattle.gh_symb.proofs.counted.counted.Given as goal
 abbrev pub invariant-loop-step : goal.invariant-loop-step
 invariant-loop-step l = record {
   few : l.walker.version ≤ l.step-index;
-  left : Remains (program_of l.typed) (procedure_in l.context) (map step_of (drop l.step-index l.step-items)) (condition_of l.condition) (terms_at l.walker);
+  left : Remains (program_of l.typed) (procedure_in l.context) (map step_of (drop l.step-index l.step-items))
+      (condition_of l.condition) (terms_at l.walker);
 }

@@ -24,5 +24,7 @@ returns-then-versions-gt-MOST_VERSIONS c =
     let r = c.args.condition.now in
     let q = c.index-procedure.result.now in
     let of = scoped_of T c.program.result.now r q c.program.ensures.same c.requires c.index-procedure.ensures in
-    holds_here P r (procedure_of q) (λ P proc d. IsCount P proc d c.args.counts → PassesLimit P proc d c.limit_at.result) of
-    (λ count. passes_versions P (procedure_of q) _ _ _ c.limit_at.result (rw c.in-Within.is at count) c.if-versions-gt-MOST_VERSIONS.true c.limit_at.ensures)
+    holds_here P r (procedure_of q)
+    (λ P proc d. IsCount P proc d c.args.counts → PassesLimit P proc d c.limit_at.result) of
+    (λ count. passes_versions P (procedure_of q) _ _ _ c.limit_at.result (rw c.in-Within.is at count)
+    c.if-versions-gt-MOST_VERSIONS.true c.limit_at.ensures)

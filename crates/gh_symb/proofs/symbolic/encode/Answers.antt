@@ -9,7 +9,10 @@ encode-requires c =
     let proc = c.requires.1 in
     let d = c.requires.2 in
     let h = c.requires.3 in
-    record { few = (few_numbers P proc d c.args.walked h.walked h.few).0; short = short_kinds P proc d c.args.walked h.walked h.few }
+    record {
+      few = (few_numbers P proc d c.args.walked h.walked h.few).0;
+      short = short_kinds P proc d c.args.walked h.walked h.few;
+    }
 
 pub overflow_cast-versions : goal.overflow_cast-versions
 overflow_cast-versions c =
@@ -40,5 +43,8 @@ invariant_of-result c =
     let parts = exact P proc d w h.walked h.few in
     record {
       states = states_of_steps P proc d w.steps.items w.bindings.items parts.steps_are parts.bindings_are;
-      inside = encoded_inside P proc d _ (w.version + 1) w.start w.steps.items w.check (c.in_ok-terms.ensures ∙ h.walked.kinds_are) h.walked.versions_are parts.start_is parts.steps_are parts.check_is;
+      inside =
+          encoded_inside P proc d _ (w.version + 1) w.start w.steps.items w.check
+          (c.in_ok-terms.ensures ∙ h.walked.kinds_are) h.walked.versions_are parts.start_is parts.steps_are
+          parts.check_is;
     }

@@ -33,13 +33,18 @@ returns c =
     let w = c.ask_check.new.walker in
     let place = c.args.condition.now.check.span in
     let met = c.in_ok-check.ensures.met in
-    let followed = ended P proc d s (bound_by w.scope) (bound_by k.firsts) (bound_by l.firsts) (map bound_by k.states.items) k.steps.items
+    let followed =
+    ended P proc d s (bound_by w.scope) (bound_by k.firsts) (bound_by l.firsts) (map bound_by k.states.items)
+    k.steps.items
     c.requires.passed.rest (c.in_ok-check.ensures.used place) met.learns in
-    let states : map bound_by l.states.items ≡ map bound_by k.states.items ++ s.bindings ∷ [] = ap (map bound_by) met.states ∙ map-append bound_by k.states.items (c.args.walker.scope ∷ []) in
+    let states : map bound_by l.states.items ≡ map bound_by k.states.items ++ s.bindings ∷ [] =
+    ap (map bound_by) met.states ∙ map-append bound_by k.states.items (c.args.walker.scope ∷ []) in
     is_walked P proc d s (bound_by l.firsts) (map bound_by k.states.items ++ s.bindings ∷ []) _
-    (subst (λ ts. Followed P proc d s (bound_by l.firsts) (map bound_by k.states.items ++ s.bindings ∷ []) ts) (sym met.steps) followed)
+    (subst (λ ts. Followed P proc d s (bound_by l.firsts) (map bound_by k.states.items ++ s.bindings ∷ []) ts)
+    (sym met.steps) followed)
     (c.in_ok-check.ensures.ended place) (c.in_ok-check.ensures.read place)
     (subst (λ b. EncodesUnder b (under (meets_at proc d.start) no_terms)) (sym met.start) c.requires.passed.start)
-    (subst (λ ms. Each EncodesBinding c.in_ok-bindings.bindings.items ms) (states_both (bound_by l.firsts) l.states.items ∙ ap (map (λ b. both b (bound_by l.firsts))) states)
+    (subst (λ ms. Each EncodesBinding c.in_ok-bindings.bindings.items ms)
+    (states_both (bound_by l.firsts) l.states.items ∙ ap (map (λ b. both b (bound_by l.firsts))) states)
     (rw c.as_slice.ensures.value at c.in_ok-bindings.ensures))
     (λ terms versions. c.new-counts.ensures P proc d (terms ∙ sym c.count.ensures) versions)

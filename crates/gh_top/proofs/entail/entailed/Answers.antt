@@ -8,4 +8,5 @@ pub write_log-requires-clause-lines : goal.write_log-requires-clause-lines
 write_log-requires-clause-lines c =
     let s : Section = c.args.section in
     let one = c.in_ok-push.ensures.items ∙ ap (λ xs. xs ++ s ∷ []) c.new-sections.ensures.items in
-    subst (λ (ss : List Section). AreOfVersion 2 (lines_of ss)) (sym one) (of_version (s.lines ∷ []) (alone_spelled s.lines c.requires))
+    subst (λ (ss : List Section). AreOfVersion 2 (lines_of ss)) (sym one)
+    (of_version (s.lines ∷ []) (alone_spelled s.lines c.requires))

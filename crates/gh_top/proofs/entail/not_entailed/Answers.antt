@@ -9,5 +9,7 @@ pub returns-clause-text : goal.returns-clause-text
 returns-clause-text c =
     let q = question_of c.args.asked.now.question in
     let one = c.in_ok-push.ensures.items ∙ ap (λ xs. xs ++ c.args.state ∷ []) c.new-states.ensures.items in
-    failing_report q c.args.state c.in_ok-drawn.drawn c.in_ok-text.text c.push-2.new.self c.args.asked.now.admitted.typed c.requires (subst (All HasValues) one c.in_ok-drawn.ensures.values)
-    (c.in_ok-drawn.ensures.text ∙ ap (drawing_text 1) one) c.in_ok-text.ensures (c.in_ok-push-2.ensures.ok ∙ ap (λ t. c.in_ok-text.text ++ t) c.bytes.ensures)
+    failing_report q c.args.state c.in_ok-drawn.drawn c.in_ok-text.text c.push-2.new.self
+    c.args.asked.now.admitted.typed c.requires (subst (All HasValues) one c.in_ok-drawn.ensures.values)
+    (c.in_ok-drawn.ensures.text ∙ ap (drawing_text 1) one) c.in_ok-text.ensures
+    (c.in_ok-push-2.ensures.ok ∙ ap (λ t. c.in_ok-text.text ++ t) c.bytes.ensures)

@@ -9,5 +9,7 @@ told a n b d c e one x = rw x (simp append_assoc)
 
 pub returns : goal.returns
 returns c =
-    told (codes "answer ") (decimal c.args.number) (codes ", ") (decimal c.args.decided) (codes " decided") line_end c.push.new.self
-    (c.in_ok-push.ensures.ok ∙ ap (λ z. z ++ c.as_bytes.result.now) c.new-text.ensures ∙ c.as_bytes.ensures.value ∙ c.in_ok-written.ensures.ok)
+    told (codes "answer ") (decimal c.args.number) (codes ", ") (decimal c.args.decided) (codes " decided") line_end
+    c.push.new.self
+    (c.in_ok-push.ensures.ok ∙ ap (λ z. z ++ c.as_bytes.result.now) c.new-text.ensures ∙ c.as_bytes.ensures.value
+    ∙ c.in_ok-written.ensures.ok)

@@ -16,13 +16,16 @@ stress_text-requires g c =
 pub returns-in-File-clause-read : goal.returns-in-File-clause-read
 returns-in-File-clause-read g c =
     let is = rw c.in-File.is at c.source.ensures in
-    IfOk-weaker c.read_file.result _ _ (λ f k. file_read (g.I.Inputs.table c.args.inputs.now) c.args.request.now c.in-File.name.now c.in-File.most f is k) c.read_file.ensures.read
+    IfOk-weaker c.read_file.result _ _
+    (λ f k. file_read (g.I.Inputs.table c.args.inputs.now) c.args.request.now c.in-File.name.now c.in-File.most f is
+    k) c.read_file.ensures.read
 
 pub returns-in-File-clause-cause : goal.returns-in-File-clause-cause
 returns-in-File-clause-cause g c =
     let is = rw c.in-File.is at c.source.ensures in
     let r = reading g.I.Inputs c.args.inputs.now c.read_file.new.inputs in
-    cause_for ⊤ (IsOnFiles c.args.request.now) r c.read_file.result (λ t. file_on_files c.args.request.now c.in-File.name.now c.in-File.most is) c.read_file.ensures.cause
+    cause_for ⊤ (IsOnFiles c.args.request.now) r c.read_file.result
+    (λ t. file_on_files c.args.request.now c.in-File.name.now c.in-File.most is) c.read_file.ensures.cause
 
 pub returns-in-File-clause-first : goal.returns-in-File-clause-first
 returns-in-File-clause-first g c =
@@ -32,7 +35,8 @@ returns-in-File-clause-first g c =
 pub returns-in_ok-stress_text-in-Number-clause-read : goal.returns-in_ok-stress_text-in-Number-clause-read
 returns-in_ok-stress_text-in-Number-clause-read g c =
     let is = rw c.in-Number.is at c.source.ensures in
-    made_read (g.I.Inputs.table c.args.inputs.now) c.args.request.now c.in-Number.n _ is c.in_ok-stress_text-in-Number.ensures
+    made_read (g.I.Inputs.table c.args.inputs.now) c.args.request.now c.in-Number.n _ is
+    c.in_ok-stress_text-in-Number.ensures
 
 pub returns-in_ok-stress_text-in-Number-clause-first : goal.returns-in_ok-stress_text-in-Number-clause-first
 returns-in_ok-stress_text-in-Number-clause-first g c =

@@ -7,5 +7,6 @@ verdict-requires c = record { outcome = rw c.typed.ensures.same at c.in_ok-outco
 
 pub returns : goal.returns
 returns c =
-    verdict_on (program_of c.args.admitted.now) _ _ c.in_ok-outcome.outcome c.in_ok-report.report.status c.in_ok-report.report.text (rw c.typed.ensures.same at c.in_ok-outcome.ensures.outcome)
+    verdict_on (program_of c.args.admitted.now) _ _ c.in_ok-outcome.outcome c.in_ok-report.report.status
+    c.in_ok-report.report.text (rw c.typed.ensures.same at c.in_ok-outcome.ensures.outcome)
     (rw c.typed.ensures.same at c.in_ok-outcome.ensures.decided) c.in_ok-report.ensures

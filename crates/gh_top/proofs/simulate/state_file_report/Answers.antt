@@ -19,13 +19,24 @@ pub returns-in-Err-Line : goal.returns-in-Err-Line
 returns-in-Err-Line c =
     let P = program_of c.args.admitted.now in
     let cause = rw c.in-Err-Line.field-0-is at c.in-Err-Line.ensures.refused in
-    let why = subst (λ proc. IsFaultyLine (program_of proc) c.args.text.now c.in-Err-Line.line) c.typed-typed.ensures.same cause in
-    both_ok c.faulty.result _ _ (λ r. (file name : List ℕ) → RepliesOn (Run file name c.args.number) P (Some c.args.text.now) r.status r.text) c.faulty.ensures.status c.faulty.ensures.text
-    (λ r s t. state_faulty P c.args.text.now c.in-Err-Line.line r.status r.text c.args.number c.requires.short why s (t ∙ ap (λ k. line (codes "refused: state line " ++ decimal k)) c.in-Err-Line.line-is))
+    let why =
+    subst (λ proc. IsFaultyLine (program_of proc) c.args.text.now c.in-Err-Line.line) c.typed-typed.ensures.same
+    cause in
+    both_ok c.faulty.result _ _
+    (λ r. (file name : List ℕ) → RepliesOn (Run file name c.args.number) P (Some c.args.text.now) r.status r.text)
+    c.faulty.ensures.status c.faulty.ensures.text
+    (λ r s t. state_faulty P c.args.text.now c.in-Err-Line.line r.status r.text c.args.number c.requires.short why s
+    (t ∙ ap (λ k. line (codes "refused: state line " ++ decimal k)) c.in-Err-Line.line-is))
 
 pub returns : goal.returns
 returns c =
     let P = program_of c.args.admitted.now in
-    let file = subst (λ proc. IsStateFile (program_of proc) c.args.text.now c.in-Ok.begin) c.typed-typed.ensures.same c.in-Ok.ensures.read in
-    let comes = subst (λ proc. IsReport (program_of proc) c.in-Ok.begin c.args.number c.in_ok-report.report) c.typed-typed.ensures.same c.in_ok-report.ensures in
-    IfOk-weaker c.run_report.result _ _ (λ r tells. run_told P c.args.text.now c.in-Ok.begin c.args.number c.in_ok-report.report r.status r.text c.requires.short file comes tells) c.run_report.ensures
+    let file =
+    subst (λ proc. IsStateFile (program_of proc) c.args.text.now c.in-Ok.begin) c.typed-typed.ensures.same
+    c.in-Ok.ensures.read in
+    let comes =
+    subst (λ proc. IsReport (program_of proc) c.in-Ok.begin c.args.number c.in_ok-report.report)
+    c.typed-typed.ensures.same c.in_ok-report.ensures in
+    IfOk-weaker c.run_report.result _ _
+    (λ r tells. run_told P c.args.text.now c.in-Ok.begin c.args.number c.in_ok-report.report r.status r.text
+    c.requires.short file comes tells) c.run_report.ensures

@@ -9,4 +9,5 @@ write_log-requires-clause-lines c =
     let s : Section = c.in-Some.section in
     let one = c.in_ok-push-in-Some.ensures.items ∙ ap (λ xs. xs ++ s ∷ []) c.new-sections.ensures.items in
     let spelled = rw c.in-Some.is at c.requires in
-    subst (λ (ss : List Section). AreOfVersion 2 (lines_of ss)) (sym one) (of_version (s.lines ∷ []) (alone_spelled s.lines spelled))
+    subst (λ (ss : List Section). AreOfVersion 2 (lines_of ss)) (sym one)
+    (of_version (s.lines ∷ []) (alone_spelled s.lines spelled))

@@ -7,6 +7,7 @@ pub returns : goal.returns
 returns c =
     λ p of.
     let own : procedure_of c.index-procedure.result.now ≡ p =
-    its_procedure c.args.typed.now c.program.result.now.procedures.items c.args.condition.now.procedure c.index-procedure.result.now p
+    its_procedure c.args.typed.now c.program.result.now.procedures.items c.args.condition.now.procedure
+    c.index-procedure.result.now p
     (ap (λ x. x.procedures.items) c.program.ensures.same) c.index-procedure.ensures of in
     ap (λ q. q.name.span) own

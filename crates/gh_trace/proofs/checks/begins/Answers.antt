@@ -11,6 +11,11 @@ pub returns-clause-begins : goal.returns-clause-begins
 returns-clause-begins c =
     IfOk-weaker c.holds.result _ _
     (λ b w. (
-      λ t. (c.is_over.ensures.0 c.if-not-is_over.false, subst (λ f. Meaning f (store_of c.args.state.now.store) c.args.state.now.heap) (sym c.in-Some.ensures.some) (w.0 t)),
-      λ begins. w.1 (subst (λ f. Meaning f (store_of c.args.state.now.store) c.args.state.now.heap) c.in-Some.ensures.some begins.1),
+      λ t. (
+        c.is_over.ensures.0 c.if-not-is_over.false,
+        subst (λ f. Meaning f (store_of c.args.state.now.store) c.args.state.now.heap) (sym c.in-Some.ensures.some)
+            (w.0 t),
+      ),
+      λ begins. w.1 (subst (λ f. Meaning f (store_of c.args.state.now.store) c.args.state.now.heap)
+          c.in-Some.ensures.some begins.1),
     )) c.holds.ensures

@@ -11,7 +11,9 @@ use Rattle.gh_trace.proofs.checks.is_entered.Goals as goal
 
 pub returns-in_default : goal.returns-in_default
 returns-in_default c at = (
-  λ t q vs inside is give params. absurd (not_both (slice_get (program_of c.args.setting.typed.now).procedures c.args.callee) q is c.in_default.ensures.none),
+  λ t q vs inside is give params. absurd
+      (not_both (slice_get (program_of c.args.setting.typed.now).procedures c.args.callee) q is
+      c.in_default.ensures.none),
   λ passes. refl,
 )
 
@@ -21,8 +23,11 @@ returns-in_default-2 c at =
     let q = procedure_of c.in-Some.callee.now in
     let x = state_of c.args.state.now in
     let es = c.args.arguments.now in
-    let none : IsNeverEntered q es x = subst (IsEnteredOr q es x) c.in_default-2.is c.in_ok-inside.ensures in
-    (λ t r vs inside is give params. absurd (never_entered P c.args.callee q r es x vs inside c.in-Some.ensures.some none is give params), λ passes. refl)
+    let none : IsNeverEntered q es x = subst (IsEnteredOr q es x) c.in_default-2.is c.in_ok-inside.ensures in (
+      λ t r vs inside is give params. absurd
+          (never_entered P c.args.callee q r es x vs inside c.in-Some.ensures.some none is give params),
+      λ passes. refl,
+    )
 
 pub returns : goal.returns
 returns c =
@@ -31,9 +36,11 @@ returns c =
     let q = procedure_of c.in-Some.callee.now in
     let x = state_of c.args.state.now in
     let es = c.args.arguments.now in
-    let entered : IsEntered q es x (store_of c.in-Some-2.inside) = subst (IsEnteredOr q es x) c.in-Some-2.is c.in_ok-inside.ensures in
+    let entered : IsEntered q es x (store_of c.in-Some-2.inside) =
+    subst (IsEnteredOr q es x) c.in-Some-2.is c.in_ok-inside.ensures in
     IfOk-weaker c.has_part.result _ _
     (λ b w at.
     let call : IsCall P c.args.callee q es x _ = record { callee = c.in-Some.ensures.some; gives = entered } in
-    let r = enters_where P proc at c.args.callee q es x _ (store_of c.in-Some-2.inside) call c.in-Some.ensures.own refl in
+    let r =
+    enters_where P proc at c.args.callee q es x _ (store_of c.in-Some-2.inside) call c.in-Some.ensures.own refl in
     (λ t. r.0 (w.0 t), λ passes. w.1 (r.1 passes))) c.has_part.ensures

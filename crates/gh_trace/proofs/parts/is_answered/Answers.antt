@@ -1,7 +1,7 @@
 use Rattle.std.proofs.Common.{◌≡◌, subst}
 use Rattle.std.specs.Prelude.{◌↔◌, IfNone, IfSome, IsTrue, map}
 use Rattle.std.proofs.lemmas.Result.{IfOk-weaker}
-use Rattle.gh_ast.specs.Plain.{formula_of, procedure_of}
+use Rattle.gh_ast.specs.Plain.{assertion_of, procedure_of}
 use Rattle.gh_assert.specs.Heaps.{Heap}
 use Rattle.gh_assert.specs.Meaning.{MeetsOneOf}
 use Rattle.gh_assert.specs.Stores.{store_of}
@@ -15,7 +15,9 @@ returns-in_default c =
     let s = store_of c.args.inside.now in
     let h = c.args.before.now in
     let k = c.args.after.now in
-    let none : (other : Heap) → Replaced q.needs s h (λ a. a ≡ other) k → ⊥ = subst (λ o. IfNone o ((other : Heap) → Replaced q.needs s h (λ a. a ≡ other) k → ⊥)) c.in_default.is c.in_ok-other.ensures.none in
+    let none : (other : Heap) → Replaced q.needs s h (λ a. a ≡ other) k → ⊥ =
+    subst (λ o. IfNone o ((other : Heap) → Replaced q.needs s h (λ a. a ≡ other) k → ⊥)) c.in_default.is
+    c.in_ok-other.ensures.none in
     (λ no. absurd cc, λ r. absurd (nothing_stands q.needs s h k (MeetsOneOf q.gives s) none r))
 
 pub returns : goal.returns
@@ -24,9 +26,11 @@ returns c =
     let s = store_of c.args.inside.now in
     let h = c.args.before.now in
     let k = c.args.after.now in
-    let stands : Replaced q.needs s h (λ a. a ≡ c.in-Some.other) k = subst (λ o. IfSome o (λ other. Replaced q.needs s h (λ a. a ≡ other) k)) c.in-Some.is c.in_ok-other.ensures.found in
+    let stands : Replaced q.needs s h (λ a. a ≡ c.in-Some.other) k =
+    subst (λ o. IfSome o (λ other. Replaced q.needs s h (λ a. a ≡ other) k)) c.in-Some.is
+    c.in_ok-other.ensures.found in
     let r = stands_where q.needs s h k c.in-Some.other (MeetsOneOf q.gives s) stands in
     IfOk-weaker c.meets_one_of.result _ _
     (λ b w.
-    let met = subst (λ fs. IsTrue b ↔ MeetsOneOf (map formula_of fs) s c.in-Some.other) c.as_slice.ensures.value w in
+    let met = subst (λ fs. IsTrue b ↔ MeetsOneOf (map assertion_of fs) s c.in-Some.other) c.as_slice.ensures.value w in
     (λ is. r.0 (met.0 is), λ replaced. met.1 (r.1 replaced))) c.meets_one_of.ensures

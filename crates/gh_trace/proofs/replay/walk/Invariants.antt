@@ -8,6 +8,7 @@ use Rattle.gh_trace.proofs.replay.walk.Given as goal
 
 abbrev pub invariant-loop-i : goal.invariant-loop-i
 invariant-loop-i l = record {
-  follows : CarriesBackKept (program_of l.setting.typed.now) (procedure_of l.setting.procedure.now) l.condition.steps.items (state_of l.first) l.others (state_of l.before) l.i;
+  follows : CarriesBackKept (program_of l.setting.typed.now) (procedure_of l.setting.procedure.now)
+      l.condition.steps.items (state_of l.first) l.others (state_of l.before) l.i;
   over : listed_names l.before.store ≡ variable_names (procedure_of l.setting.procedure.now);
 }

@@ -11,7 +11,8 @@ use Rattle.gh_trace.proofs.steps.goes_around.Goals as goal
 pub returns-in_default : goal.returns-in_default
 returns-in_default c = (
   λ t. absurd cc,
-  λ takes. absurd (not_both (slice_get (loops_of (procedure_of c.args.setting.procedure.now)) c.args.number) takes.0 takes.1 c.in_default.ensures.none),
+  λ takes. absurd (not_both (slice_get (loops_of (procedure_of c.args.setting.procedure.now)) c.args.number) takes.0
+      takes.1 c.in_default.ensures.none),
 )
 
 pub returns : goal.returns
@@ -21,5 +22,7 @@ returns c =
     let y = state_of c.args.after.now in
     IfOk-weaker c.is_replaced.result _ _
     (λ b w.
-    let r = around_where p c.args.number (loop_of c.in-Some.round) x y c.in-Some.ensures.some in
-    (λ t. r.1 (record { replaced = w.0 t; kept = c.keeps.ensures.0 c.if-not-keeps.false }), λ takes. w.1 (r.0 takes).replaced)) c.is_replaced.ensures
+    let r = around_where p c.args.number (loop_of c.in-Some.round) x y c.in-Some.ensures.some in (
+      λ t. r.1 (record { replaced = w.0 t; kept = c.keeps.ensures.0 c.if-not-keeps.false }),
+      λ takes. w.1 (r.0 takes).replaced,
+    )) c.is_replaced.ensures

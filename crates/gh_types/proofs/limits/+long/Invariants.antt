@@ -7,4 +7,5 @@ use Rattle.gh_types.specs.LimitChecks.{FindsMany}
 use Rattle.gh_types.proofs.limits.+long.Given as goal
 
 abbrev pub invariant-long_in_statements-loop-statement : goal.invariant-long_in_statements-loop-statement
-invariant-long_in_statements-loop-statement l = FindsMany (flat_map (λ s. map atoms (invariants_in (statement_of s))) (take l.statement-index l.statements)) None
+invariant-long_in_statements-loop-statement l =
+    FindsMany (flat_map (λ s. map atoms (invariants_in (statement_of s))) (take l.statement-index l.statements)) None

@@ -12,9 +12,12 @@ returns-in-Some c =
       kind = refl;
       procedure = q;
       number = c.in-Some.ensures.says.many;
-      first = first_there HasManyAtomsSomewhere c.args.procedures.now c.loop-procedure.procedure-index c.procedure-item.result (omega arith) c.procedure-item.is
+      first =
+          first_there HasManyAtomsSomewhere c.args.procedures.now c.loop-procedure.procedure-index
+          c.procedure-item.result (omega arith) c.procedure-item.is
           (some_many (atom_counts q) _ c.in-Some.ensures)
-          (λ j d l m. none_many (atom_counts (get_or (map procedure_of c.args.procedures.now) j d)) (c.loop-procedure.invariant j d l) m);
+          (λ j d l m. none_many (atom_counts (get_or (map procedure_of c.args.procedures.now) j d))
+          (c.loop-procedure.invariant j d l) m);
       first_there = c.in-Some.ensures.says.first;
       span = refl;
       count = c.in-Some.ensures.says.count;
@@ -22,7 +25,10 @@ returns-in-Some c =
 
 pub loop-procedure-preserved : goal.loop-procedure-preserved
 loop-procedure-preserved c =
-    all_more (λ q. All (λ n. n ≤ 32) (atom_counts q)) c.args.procedures.now c.loop-procedure.procedure-index c.procedure-item.result (omega arith) c.procedure-item.is c.loop-procedure.invariant c.in_default.ensures.says
+    all_more (λ q. All (λ n. n ≤ 32) (atom_counts q)) c.args.procedures.now c.loop-procedure.procedure-index
+    c.procedure-item.result (omega arith) c.procedure-item.is c.loop-procedure.invariant c.in_default.ensures.says
 
 pub returns : goal.returns
-returns c = all_whole (λ q. All (λ n. n ≤ 32) (atom_counts q)) c.args.procedures.now c.loop-procedure.procedure-index (omega arith) c.loop-procedure.invariant
+returns c =
+    all_whole (λ q. All (λ n. n ≤ 32) (atom_counts q)) c.args.procedures.now c.loop-procedure.procedure-index
+    (omega arith) c.loop-procedure.invariant

@@ -5,4 +5,6 @@ use Rattle.gh_ast.specs.Limits.{atom_counts}
 use Rattle.gh_types.proofs.limits.atoms_limit.Given as goal
 
 abbrev pub invariant-loop-procedure : goal.invariant-loop-procedure
-invariant-loop-procedure l = (j : ℕ) (d : Procedure) → j < l.procedure-index → All (λ n. n ≤ 32) (atom_counts (get_or (map procedure_of l.procedures) j d))
+invariant-loop-procedure l =
+    (j : ℕ) (d : Procedure) → j < l.procedure-index
+    → All (λ n. n ≤ 32) (atom_counts (get_or (map procedure_of l.procedures) j d))

@@ -12,11 +12,14 @@ returns-then-count-gt-MOST_VARIABLES c =
     record {
       kind = refl;
       procedure = q;
-      first = first_there HasManyVariables c.args.procedures.now c.loop-procedure.procedure-index c.procedure-item.result (omega arith) c.procedure-item.is many (λ j d l m. omega (arith, c.loop-procedure.invariant j d l));
+      first =
+          first_there HasManyVariables c.args.procedures.now c.loop-procedure.procedure-index c.procedure-item.result
+          (omega arith) c.procedure-item.is many (λ j d l m. omega (arith, c.loop-procedure.invariant j d l));
       span = refl;
       count = c.count_variables-count.ensures;
     }
 
 pub loop-procedure-preserved : goal.loop-procedure-preserved
 loop-procedure-preserved c =
-    all_more (λ q. length (variables_of q) ≤ 32) c.args.procedures.now c.loop-procedure.procedure-index c.procedure-item.result (omega arith) c.procedure-item.is c.loop-procedure.invariant (omega arith)
+    all_more (λ q. length (variables_of q) ≤ 32) c.args.procedures.now c.loop-procedure.procedure-index
+    c.procedure-item.result (omega arith) c.procedure-item.is c.loop-procedure.invariant (omega arith)

@@ -7,11 +7,15 @@ use Rattle.gh_verdict_tests.proofs.decide_tests.judged.Goals as goal
 pub refuting-requires-clause-one : goal.refuting-requires-clause-one
 refuting-requires-clause-one c =
     let P = program_of c.args.typed.now in
-    let found : IsNumbered P c.args.number (Some c.in-Some.condition) = subst (λ Q. IsNumbered Q c.args.number (Some c.in-Some.condition)) c.requires.same (rw c.in-Some.is at c.in_ok-condition.ensures) in
+    let found : IsNumbered P c.args.number (Some c.in-Some.condition) =
+    subst (λ Q. IsNumbered Q c.args.number (Some c.in-Some.condition)) c.requires.same
+    (rw c.in-Some.is at c.in_ok-condition.ensures) in
     numbered_one P c.args.number c.in-Some.condition found
 
 pub replays-requires : goal.replays-requires
 replays-requires c =
     let P = program_of c.args.typed.now in
-    let found : IsNumbered P c.args.number (Some c.in-Some.condition) = subst (λ Q. IsNumbered Q c.args.number (Some c.in-Some.condition)) c.requires.same (rw c.in-Some.is at c.in_ok-condition.ensures) in
+    let found : IsNumbered P c.args.number (Some c.in-Some.condition) =
+    subst (λ Q. IsNumbered Q c.args.number (Some c.in-Some.condition)) c.requires.same
+    (rw c.in-Some.is at c.in_ok-condition.ensures) in
     numbered_one P c.args.number c.in-Some.condition found

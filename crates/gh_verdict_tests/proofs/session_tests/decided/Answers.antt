@@ -5,4 +5,5 @@ use Rattle.gh_ast.specs.Rules.{IsTyped}
 use Rattle.gh_verdict_tests.proofs.session_tests.decided.Goals as goal
 
 pub told_of-requires-clause-typed : goal.told_of-requires-clause-typed
-told_of-requires-clause-typed c = subst (λ (p : Program). IsTyped (program_of p)) (sym c.in-Ok-check.ensures.ok) c.in-Ok-check.ensures.rules
+told_of-requires-clause-typed c =
+    subst (λ (p : Program). IsTyped (program_of p)) (sym c.in-Ok-check.ensures.ok) c.in-Ok-check.ensures.rules

@@ -5,6 +5,9 @@ use Rattle.gh_assert.proofs.heap.Heap.cells.Goals as goal
 
 pub returns : goal.returns
 returns c = record {
-  entries = ap pairs c.as_slice.ensures.value ∙ sym (entries-from_sorted nat_cmp (pairs c.self.inside.cells.items) c.self.invariant.ascending) ∙ ap entries c.self.view_is;
+  entries =
+      ap pairs c.as_slice.ensures.value
+      ∙ sym (entries-from_sorted nat_cmp (pairs c.self.inside.cells.items) c.self.invariant.ascending)
+      ∙ ap entries c.self.view_is;
   cells = subst AreCells (sym c.as_slice.ensures.value) c.self.invariant;
 }

@@ -7,7 +7,9 @@ pub returns-in-Ok : goal.returns-in-Ok
 returns-in-Ok c =
     let i = c.in-Ok.i in
     let h = subst (λ cs. IsHere cs c.args.at i) c.as_slice.ensures.value c.in-Ok.ensures in
-    ap (λ x. Some x.to) c.index.ensures ∙ sym (get_here c.self.inside.cells.items c.args.at i c.args.self.now c.index.result.now c.self.view_is c.self.invariant h)
+    ap (λ x. Some x.to) c.index.ensures
+    ∙ sym (get_here c.self.inside.cells.items c.args.at i c.args.self.now c.index.result.now c.self.view_is
+    c.self.invariant h)
 
 pub returns-in-Err : goal.returns-in-Err
 returns-in-Err c =

@@ -5,4 +5,5 @@ use Rattle.gh_assert.proofs.heap.Heap.new.Goals as goal
 
 pub returns : goal.returns
 returns c =
-    ap (λ cs. from_sorted (pairs cs)) c.new.ensures.items ∙ empty_of_len (from_sorted []) (len-entries (from_sorted []) ∙ ap length (entries-from_sorted nat_cmp [] tt))
+    ap (λ cs. from_sorted (pairs cs)) c.new.ensures.items
+    ∙ empty_of_len (from_sorted []) (len-entries (from_sorted []) ∙ ap length (entries-from_sorted nat_cmp [] tt))

@@ -9,6 +9,10 @@ returns c =
     let cells = c.self.inside.cells.now in
     let marks = c.self.inside.taken.items in
     let rest = ap (λ p. p.1) c.self.view_is in (
-      λ yes'. subst IsEmpty rest (rest_empty cells marks c.self.invariant.0 c.self.invariant.1 (subst (All (λ m. m ≡ true)) c.as_slice.ensures.value (c.all_true.ensures.0 yes'))),
-      λ none. c.all_true.ensures.1 (subst (All (λ m. m ≡ true)) (sym c.as_slice.ensures.value) (empty_marks cells marks c.self.invariant.0 c.self.invariant.1 (subst IsEmpty (sym rest) none))),
+      λ yes'. subst IsEmpty rest
+          (rest_empty cells marks c.self.invariant.0 c.self.invariant.1
+          (subst (All (λ m. m ≡ true)) c.as_slice.ensures.value (c.all_true.ensures.0 yes'))),
+      λ none. c.all_true.ensures.1
+          (subst (All (λ m. m ≡ true)) (sym c.as_slice.ensures.value)
+          (empty_marks cells marks c.self.invariant.0 c.self.invariant.1 (subst IsEmpty (sym rest) none))),
     )

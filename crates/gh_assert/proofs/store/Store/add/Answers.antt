@@ -9,5 +9,7 @@ pub invariant_of-self-2 : goal.invariant_of-self-2
 invariant_of-self-2 c =
     let added : Entry = record { name = c.in_ok-name.name; value = c.args.value } in
     let new : Contains (listed_names c.self.inside.entries.items) c.in_ok-name.name → ⊥ =
-    subst (λ es. Contains (listed_names es) c.in_ok-name.name → ⊥) (sym c.self.view_is) (subst (λ n. Contains (listed_names c.args.self.now) n → ⊥) (sym c.in_ok-name.ensures) c.requires.new) in
-    subst AreDistinct (sym c.in_ok-push.ensures.items) (distinct_more c.self.inside.entries.items added c.self.invariant new)
+    subst (λ es. Contains (listed_names es) c.in_ok-name.name → ⊥) (sym c.self.view_is)
+    (subst (λ n. Contains (listed_names c.args.self.now) n → ⊥) (sym c.in_ok-name.ensures) c.requires.new) in
+    subst AreDistinct (sym c.in_ok-push.ensures.items)
+    (distinct_more c.self.inside.entries.items added c.self.invariant new)

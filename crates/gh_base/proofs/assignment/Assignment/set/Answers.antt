@@ -6,4 +6,5 @@ use Rattle.gh_base.proofs.assignment.Assignment.set.Goals as goal
 pub returns-clause-meaning : goal.returns-clause-meaning
 returns-clause-meaning c =
     rw (c.number-number.ensures.number, ← c.self.view_is)
-    (changes_atom (the_view c.self.inside) c.args.lit.atom (Some c.args.lit.positive) c.self.invariant (rw (← c.self.view_is) at c.requires))
+    (changes_atom (the_view c.self.inside) c.args.lit.atom (Some c.args.lit.positive) c.self.invariant
+    (rw (← c.self.view_is) at c.requires))

@@ -10,7 +10,12 @@ returns-in-Eq-clause-below c =
 pub returns-in-Btwn-clause-below : goal.returns-in-Btwn-clause-below
 returns-in-Btwn-clause-below c =
     let here = rw c.in-Btwn.is at c.requires in
-    rw (c.btwn_start.ensures.value, c.place_in-in-Btwn.ensures.value, c.place_in.ensures.value, c.place_in-row.ensures.value)
+    rw (
+      c.btwn_start.ensures.value,
+      c.place_in-in-Btwn.ensures.value,
+      c.place_in.ensures.value,
+      c.place_in-row.ensures.value,
+    )
     (omega (arith, btwn_below c.args.self c.in-Btwn.version c.in-Btwn.x c.in-Btwn.y c.in-Btwn.z here))
 
 pub returns-in-Hop-clause-below : goal.returns-in-Hop-clause-below

@@ -25,8 +25,8 @@ push_reserved-requires-2 c =
     c.requires.free in
     omega (arith, m.few, m.long, c.self.invariant.2.1)
 
-pub take_in-found-requires-clause-tied : goal.take_in-found-requires-clause-tied
-take_in-found-requires-clause-tied c =
+pub file_last-found-requires-clause-tied : goal.file_last-found-requires-clause-tied
+file_last-found-requires-clause-tied c =
     let i = c.self.inside in
     let place : c.len-place.result ≡ length c.self.inside.lits.items = omega arith in
     let whole : c.as_slice.result.now ≡ c.self.inside.lits.items ++ c.args.lit ∷ [] =
@@ -41,8 +41,8 @@ take_in-found-requires-clause-tied c =
       state = tied_now (core_of i) c.self.invariant.0;
     })
 
-pub take_in-found-requires-clause-in_range : goal.take_in-found-requires-clause-in_range
-take_in-found-requires-clause-in_range c =
+pub file_last-found-requires-clause-in_range : goal.file_last-found-requires-clause-in_range
+file_last-found-requires-clause-in_range c =
     let m = may_assert c.self.inside c.args.lit _ c.self.view_is c.self.invariant.0 c.requires.in_range
     c.requires.free in
     let whole : c.as_slice.result.now ≡ c.self.inside.lits.items ++ c.args.lit ∷ [] =
@@ -63,15 +63,15 @@ mention-requires-clause-small c =
     let fit = mentions_fit (core_of c.self.inside) c.args.lit c.self.inside.uses.list m c.self.invariant.3 in
     omega (arith, fit, c.self.invariant.2.0)
 
-pub take_in-found-requires-clause-uses : goal.take_in-found-requires-clause-uses
-take_in-found-requires-clause-uses c =
+pub file_last-found-requires-clause-uses : goal.file_last-found-requires-clause-uses
+file_last-found-requires-clause-uses c =
     let whole : c.as_slice.result.now ≡ c.self.inside.lits.items ++ c.args.lit ∷ [] =
     c.as_slice.ensures.value ∙ c.push_reserved-2.ensures.items in
     mentions_more c.self.inside.lits.items c.as_slice.result.now c.args.lit c.self.inside.uses c.mention.new.uses
     c.self.invariant.3 c.mention.ensures whole
 
-pub take_in-found-requires-clause-mentioned : goal.take_in-found-requires-clause-mentioned
-take_in-found-requires-clause-mentioned c = ap (λ (u : Mentioned). u.terms) c.mention.ensures ∙ c.self.invariant.1.2
+pub file_last-found-requires-clause-mentioned : goal.file_last-found-requires-clause-mentioned
+file_last-found-requires-clause-mentioned c = ap (λ (u : Mentioned). u.terms) c.mention.ensures ∙ c.self.invariant.1.2
 
 pub invariant_of-self : goal.invariant_of-self
 invariant_of-self c =
@@ -82,22 +82,24 @@ invariant_of-self c =
     let place : c.len-place.result ≡ length c.self.inside.lits.items = omega arith in
     let whole : c.as_slice.result.now ≡ c.self.inside.lits.items ++ c.args.lit ∷ [] =
     c.as_slice.ensures.value ∙ c.push_reserved-2.ensures.items in
-    let t = c.take_in-found.ensures in
+    let t = c.file_last-found.ensures in
     let taken = taken_in core c.args.lit c.as_slice.result.now c.len-place.result i.partition
-    c.take_in-found.new.partition
-    c.take_in-found.new.signs c.take_in-found.result c.is_some-clashed.result
+    c.file_last-found.new.partition
+    c.file_last-found.new.signatures c.file_last-found.result c.is_some-clashed.result
     whole place c.is_some-clashed.ensures m.kept t.tied t.links t.grows.added t.grows.more t.filed t.clash in
-    let now = kept_assert core c.args.lit c.take_in-found.new.partition c.take_in-found.new.signs c.take_in-found.result
+    let now =
+    kept_assert core c.args.lit c.file_last-found.new.partition c.file_last-found.new.signatures
+    c.file_last-found.result
     m.kept m.inside m.free taken in
     let stage : c.push_reserved.new.self.items ≡ core.stages ++ now_of core ∷ [] =
     c.push_reserved.ensures.items ∙ ap (λ (d : ℕ). core.stages ++ stage_of d c.len.result ∷ []) c.depth.ensures.depth
     ∙ ap (λ (n : ℕ). core.stages ++ stage_of (length core.links) n ∷ []) c.len.ensures.len in
-    let clash : c.first_clash-self-inside.result ≡ first_clash core.clash (length core.lits) c.take_in-found.result =
-    c.first_clash-self-inside.ensures ∙ ap (λ (n : ℕ). first_clash core.clash n c.take_in-found.result) place in (
-      kept_along (more_core core c.args.lit c.take_in-found.new.partition c.take_in-found.new.signs
-          c.take_in-found.result)
-          _ _ _ _ _ now c.push_reserved-2.ensures.items stage (λ _. c.take_in-found.new.partition.links)
-          (λ _. c.take_in-found.new.signs.entries) clash,
+    let clash : c.first_clash-self-inside.result ≡ first_clash core.clash (length core.lits) c.file_last-found.result =
+    c.first_clash-self-inside.ensures ∙ ap (λ (n : ℕ). first_clash core.clash n c.file_last-found.result) place in (
+      kept_along (more_core core c.args.lit c.file_last-found.new.partition c.file_last-found.new.signatures
+          c.file_last-found.result)
+          _ _ _ _ _ now c.push_reserved-2.ensures.items stage (λ _. c.file_last-found.new.partition.links)
+          (λ _. c.file_last-found.new.signatures.entries) clash,
       (t.tied.terms, t.tied.count, ap (λ (u : Mentioned). u.terms) c.mention.ensures ∙ c.self.invariant.1.2),
       (
         c.self.invariant.2.0,

@@ -1,6 +1,6 @@
 use Rattle.std.proofs.Common.{◌≡◌, ◌<◌, ◌∙◌, length, take, List, Option, ◌*◌, sym, ap, subst, arith}
 use Rattle.gh_cc.specs.Partitions.{Merged}
-use Rattle.gh_cc.specs.Signs.{Filed}
+use Rattle.gh_cc.specs.Signatures.{Filed}
 use Rattle.gh_cc.specs.Kept.{IsKept, stage_at}
 use Rattle.gh_cc.specs.declared.classes.Stage.{Stage}
 use Rattle.gh_base.specs.declared.atom.Term.{Term}

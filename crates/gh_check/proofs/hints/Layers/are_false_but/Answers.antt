@@ -7,9 +7,13 @@ use Rattle.gh_check.proofs.hints.Layers.are_false_but.Goals as goal
 
 pub loop-lit-preserved : goal.loop-lit-preserved
 loop-lit-preserved c =
-    all_more (λ m. (m ≡ c.args.one) ⊎ Contains c.args.self.now.lits (opposite m)) c.args.clause.now c.loop-lit.lit-index nothing c.loop-lit-test.true c.loop-lit.invariant
+    all_more (λ m. (m ≡ c.args.one) ⊎ Contains c.args.self.now.lits (opposite m)) c.args.clause.now c.loop-lit.lit-index
+    nothing c.loop-lit-test.true c.loop-lit.invariant
     (c.if-not-is_false_or.ensures.0 refl)
 
 pub returns : goal.returns
-returns c =
-    ((λ t. all_done (λ m. (m ≡ c.args.one) ⊎ Contains c.args.self.now.lits (opposite m)) c.args.clause.now c.loop-lit.lit-index (omega arith) c.loop-lit.invariant), λ a. refl)
+returns c = (
+  (λ t. all_done (λ m. (m ≡ c.args.one) ⊎ Contains c.args.self.now.lits (opposite m)) c.args.clause.now
+      c.loop-lit.lit-index (omega arith) c.loop-lit.invariant),
+  λ a. refl,
+)

@@ -4,4 +4,6 @@ use Rattle.gh_check.specs.Truths.{TruthSet, IsLook}
 use Rattle.gh_check.proofs.hints.Truths.look_at.Goals as goal
 
 pub returns : goal.returns
-returns c = subst (λ (t : TruthSet). IsLook t.lits (clause_at c.args.kept.now c.args.position) c.look_at.result) c.only.ensures c.look_at.ensures
+returns c =
+    subst (λ (t : TruthSet). IsLook t.lits (clause_at c.args.kept.now c.args.position) c.look_at.result) c.only.ensures
+    c.look_at.ensures

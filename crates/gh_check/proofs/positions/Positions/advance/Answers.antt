@@ -15,6 +15,8 @@ invariant_of-self c =
 pub returns : goal.returns
 returns c =
     let i = c.self.inside in
-    let moved : List (Option (List Lit)) → Kept = λ os. record { problem = i.ground.now; lines = i.lines.now; clauses = os; deleted = i.deleted.items } in
-    subst (λ (k : Kept). (l : LogLine) → next_line k ≡ Some l → moved (entries i.ground.now i.lines.now (i.taken + 1)) ≡ with_line k (line_clause k.problem l)) c.self.view_is
+    let moved : List (Option (List Lit)) → Kept =
+    λ os. record { problem = i.ground.now; lines = i.lines.now; clauses = os; deleted = i.deleted.items } in
+    subst (λ (k : Kept). (l : LogLine) → next_line k ≡ Some l
+    → moved (entries i.ground.now i.lines.now (i.taken + 1)) ≡ with_line k (line_clause k.problem l)) c.self.view_is
     (λ l next. ap moved (next_taken i.ground.now i.lines.now i.taken i.deleted.items c.self.invariant l next))

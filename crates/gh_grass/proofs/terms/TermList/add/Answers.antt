@@ -10,7 +10,8 @@ invariant_of-self-2 c =
     let room : length ks < 255 = subst (λ l. length l < 255) (sym c.self.view_is) c.requires.room in (
       subst (λ l. length l < 256) made (few_kept ks c.args.kind _ room),
       subst (λ l. slice_get l 0 ≡ Some Null) made (first_kept ks c.args.kind _ c.self.invariant.1),
-      distinct_kinds _ (record { null = search rules; value = λ n. search rules; next = λ i x. search rules }) c.insert_full.new.self.keys c.insert_full.ensures.unique,
+      distinct_kinds _ (record { null = search rules; value = λ n. search rules; next = λ i x. search rules })
+          c.insert_full.new.self.keys c.insert_full.ensures.unique,
     )
 
 pub returns-clause-added : goal.returns-clause-added
@@ -19,5 +20,7 @@ returns-clause-added c = λ none.
     let stored = c.in_ok-place.ensures.stored in
     let same : stored.0 ≡ c.args.kind = search (rules, stored.2) in
     let fresh = subst (λ l. Contains l c.args.kind → ⊥) (sym c.self.view_is) none in
-    let made = new_is_last ks c.insert_full.new.self.keys c.args.kind c.in_ok-place.place _ c.in_ok-place.ensures.keys (stored.1 ∙ ap Some same) fresh in
+    let made =
+    new_is_last ks c.insert_full.new.self.keys c.args.kind c.in_ok-place.place _ c.in_ok-place.ensures.keys
+    (stored.1 ∙ ap Some same) fresh in
     made ∙ ap (λ l. l ++ c.args.kind ∷ []) c.self.view_is

@@ -11,4 +11,5 @@ add-requires c =
 
 pub returns-clause-keeps : goal.returns-clause-keeps
 returns-clause-keeps c =
-    keeps_instance c.args.self.now.search c.add.new.self c.args.self.now.lines c.push.new.self c.args.name c.in-Some.clause c.requires c.in-Some.ensures.clause c.in_ok-add.ensures.ok c.in_ok-push.ensures.ok
+    keeps_instance c.args.self.now.search c.add.new.self c.args.self.now.lines c.push.new.self c.args.name
+    c.in-Some.clause c.requires c.in-Some.ensures.clause c.in_ok-add.ensures.ok c.in_ok-push.ensures.ok

@@ -15,8 +15,10 @@ loop-name-init c = record {
 
 pub add_instance-requires : goal.add_instance-requires
 add_instance-requires c =
-    let n : InstanceName = get_or c.args.names.now c.loop-name.name-index (record { row = 0; version = 0; terms = []; arity = 0 }) in
-    subst (λ (z : Sizes). IsInstance z.terms z.versions n) (sym c.loop-name.invariant.sizes) (c.requires c.loop-name.name-index _ c.loop-name-test.true)
+    let n : InstanceName =
+    get_or c.args.names.now c.loop-name.name-index (record { row = 0; version = 0; terms = []; arity = 0 }) in
+    subst (λ (z : Sizes). IsInstance z.terms z.versions n) (sym c.loop-name.invariant.sizes)
+    (c.requires c.loop-name.name-index _ c.loop-name-test.true)
 
 pub loop-name-preserved : goal.loop-name-preserved
 loop-name-preserved c =
@@ -28,7 +30,9 @@ loop-name-preserved c =
     let d : InstanceName = record { row = 0; version = 0; terms = []; arity = 0 } in
     record {
       sizes = e.sizes ∙ i.sizes;
-      added = added_more c.args.names.now c.loop-name.name-index d (get_or c.args.names.now c.loop-name.name-index d) old.search new.search old.lines new.lines c.loop-name-test.true refl e.keeps i.added e.added;
+      added =
+          added_more c.args.names.now c.loop-name.name-index d (get_or c.args.names.now c.loop-name.name-index d)
+          old.search new.search old.lines new.lines c.loop-name-test.true refl e.keeps i.added e.added;
       keeps = keeps_then first.search old.search new.search first.lines old.lines new.lines i.keeps e.keeps;
     }
 

@@ -8,4 +8,6 @@ returns-then-self c = λ m version n tuple first place few truths.
     positive_false m version n first place c.args.word tuple c.args.self.now truths c.if-self.true few small
 
 pub returns : goal.returns
-returns c = λ m version n tuple first place few truths. negative_false m version n first place c.args.word tuple c.args.self.now truths c.if-self.false
+returns c =
+    λ m version n tuple first place few truths. negative_false m version n first place c.args.word tuple c.args.self.now
+    truths c.if-self.false

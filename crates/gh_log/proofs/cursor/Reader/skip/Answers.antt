@@ -7,7 +7,9 @@ use Rattle.gh_log.proofs.cursor.Reader.skip.Goals as goal
 
 pub returns-then-not-starts_with : goal.returns-then-not-starts_with
 returns-then-not-starts_with c =
-    let starts = starts_is Decides-eqb c.args.self.now.rest.now c.args.wanted.now c.starts_with.result c.starts_with.ensures.value in
+    let starts =
+    starts_is Decides-eqb c.args.self.now.rest.now c.args.wanted.now c.starts_with.result
+    c.starts_with.ensures.value in
     (refl, λ rest e. both_ways c.starts_with.result c.if-not-starts_with.true (starts.1 rest e))
 
 pub returns : goal.returns

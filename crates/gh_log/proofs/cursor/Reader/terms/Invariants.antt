@@ -5,6 +5,7 @@ use Rattle.gh_log.proofs.cursor.Reader.terms.Given as goal
 
 abbrev pub invariant-loop-count : goal.invariant-loop-count
 invariant-loop-count l = record {
-  goes : Goes (SpellsTerms l.count l.self.rest.now) (SpellsTerms 0 l.fn.self.rest.now) (λ ts. take l.count l.terms ++ ts);
+  goes : Goes (SpellsTerms l.count l.self.rest.now) (SpellsTerms 0 l.fn.self.rest.now)
+      (λ ts. take l.count l.terms ++ ts);
   padded : ArePadded l.terms l.count;
 }

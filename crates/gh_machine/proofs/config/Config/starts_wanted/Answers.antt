@@ -7,4 +7,5 @@ pub overflow_cast-result : goal.overflow_cast-result
 overflow_cast-result c =
     let P = program_of c.program.result.now in
     let q = procedure_of c.in-Some.procedure.now in
-    starts_fit P q c.count_starts.result c.program.ensures.limits (is_member P.procedures _ q c.in-Some.ensures) c.count_starts.ensures
+    starts_fit P q c.count_starts.result c.program.ensures.limits (is_member P.procedures _ q c.in-Some.ensures)
+    c.count_starts.ensures

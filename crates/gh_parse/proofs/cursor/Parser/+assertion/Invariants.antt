@@ -1,6 +1,6 @@
 use Rattle.std.proofs.Common.{◌+◌, ◌*◌, ◌<◌, length}
 use Rattle.gh_ast.specs.Grammar.{SpellsAssertion, SpellsItems}
-use Rattle.gh_ast.specs.Plain.{star, formula_first, formula_of}
+use Rattle.gh_ast.specs.Plain.{star, assertion_first, assertion_of}
 use Rattle.gh_parse.specs.Views.{tokens_of}
 use Rattle.gh_parse.specs.Stops.{EndsHere}
 use Rattle.gh_parse.proofs.Turns.{Goes, before}
@@ -28,7 +28,7 @@ abbrev pub invariant-assertion-members : goal.invariant-assertion-members
 invariant-assertion-members l = record {
   goes :
       Goes EndsHere SpellsItems SpellsAssertion (tokens_of l.self.rest.now) (tokens_of l.fn.self.rest.now)
-      (λ ts. star (before (λ c. formula_first (formula_of c)) l.members.items ts));
+      (λ ts. star (before (λ c. assertion_first (assertion_of c)) l.members.items ts));
   shorter : length (tokens_of l.self.rest.now) < length (tokens_of l.fn.self.rest.now);
 }
 

@@ -1,6 +1,6 @@
 use Rattle.std.proofs.Common.{◌+◌, ◌*◌, ◌<◌, length}
-use Rattle.gh_ast.specs.Grammar.{SpellsConj, SpellsLits, SpellsTest, SpellsConjs}
-use Rattle.gh_ast.specs.Plain.{conjunction, disjunction, test_first, test_of}
+use Rattle.gh_ast.specs.Grammar.{SpellsConj, SpellsLits, SpellsCond, SpellsConjs}
+use Rattle.gh_ast.specs.Plain.{conjunction, disjunction, cond_first, cond_of}
 use Rattle.gh_parse.specs.Views.{tokens_of}
 use Rattle.gh_parse.specs.Stops.{EndsHere}
 use Rattle.gh_parse.proofs.Turns.{Goes, before}
@@ -22,7 +22,7 @@ abbrev pub invariant-conjunction-members : goal.invariant-conjunction-members
 invariant-conjunction-members l = record {
   goes :
       Goes EndsHere (SpellsLits l.reads) (SpellsConj l.reads) (tokens_of l.self.rest.now) (tokens_of l.fn.self.rest.now)
-      (λ ts. conjunction (before (λ c. test_first (test_of c)) l.members.items ts));
+      (λ ts. conjunction (before (λ c. cond_first (cond_of c)) l.members.items ts));
   shorter : length (tokens_of l.self.rest.now) < length (tokens_of l.fn.self.rest.now);
 }
 
@@ -32,8 +32,9 @@ decreases-conjunction-members l = length (tokens_of l.self.rest.now)
 abbrev pub invariant-test-members : goal.invariant-test-members
 invariant-test-members l = record {
   goes :
-      Goes EndsHere (SpellsConjs l.reads) (SpellsTest l.reads) (tokens_of l.self.rest.now) (tokens_of l.fn.self.rest.now)
-      (λ ts. disjunction (before (λ c. test_first (test_of c)) l.members.items ts));
+      Goes EndsHere (SpellsConjs l.reads) (SpellsCond l.reads) (tokens_of l.self.rest.now)
+      (tokens_of l.fn.self.rest.now)
+      (λ ts. disjunction (before (λ c. cond_first (cond_of c)) l.members.items ts));
   shorter : length (tokens_of l.self.rest.now) < length (tokens_of l.fn.self.rest.now);
 }
 

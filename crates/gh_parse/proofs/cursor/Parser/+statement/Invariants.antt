@@ -26,7 +26,8 @@ abbrev pub decreases-block : goal.decreases-block
 decreases-block l = 4 * length (tokens_of l.self.now.rest.now)
 
 abbrev pub invariant-statements-run : goal.invariant-statements-run
-invariant-statements-run l = Runs (tokens_of l.fn.self.rest.now) (tokens_of l.self.rest.now) (map statement_of l.statements.items)
+invariant-statements-run l =
+    Runs (tokens_of l.fn.self.rest.now) (tokens_of l.self.rest.now) (map statement_of l.statements.items)
 
 abbrev pub decreases-statements-run : goal.decreases-statements-run
 decreases-statements-run l = length (tokens_of l.self.rest.now)

@@ -29,4 +29,6 @@ returns-in_err-expect_sign-2 c =
     (missing _ _ _ _ _ first_place refl c.in_err-expect_sign-2.ensures) c.from_residual-in_err-expect_sign-2.ensures.1
 
 pub returns : goal.returns
-returns c = rw (formula_of-acc c.in_ok-at.at) (allocated c.in_ok-expect_key.ensures c.in_ok-expect_sign.ensures c.in_ok-at.ensures c.in_ok-expect_sign-2.ensures)
+returns c =
+    rw (formula_of-acc c.in_ok-at.at)
+    (allocated c.in_ok-expect_key.ensures c.in_ok-expect_sign.ensures c.in_ok-at.ensures c.in_ok-expect_sign-2.ensures)

@@ -9,16 +9,19 @@ use Rattle.gh_parse.proofs.cursor.Parser.call_to_many.Goals as goal
 
 pub returns-in_err-targets : goal.returns-in_err-targets
 returns-in_err-targets c =
-    exit _ _ _ (λ s. by make_many (told _ _ _ c.requires.2 part_many) (first (ends_seq (ends_tok a_name refl) ends_arguments) s)) c.in_err-targets.ensures c.from_residual.ensures.1
+    exit _ _ _ (λ s. by make_many (told _ _ _ c.requires.2 part_many)
+    (first (ends_seq (ends_tok a_name refl) ends_arguments) s)) c.in_err-targets.ensures c.from_residual.ensures.1
 
 pub returns-in_err-callee : goal.returns-in_err-callee
 returns-in_err-callee c =
-    exit _ _ _ (λ s. by make_many (told _ _ _ c.requires.2 part_many) (next exact_targets_from (any c.in_ok-targets.ensures) (first ends_arguments s)))
+    exit _ _ _ (λ s. by make_many (told _ _ _ c.requires.2 part_many)
+    (next exact_targets_from (any c.in_ok-targets.ensures) (first ends_arguments s)))
     (missing _ _ _ _ _ a_name refl c.in_err-callee.ensures) c.from_residual-in_err-callee.ensures.1
 
 pub returns-in_err-arguments : goal.returns-in_err-arguments
 returns-in_err-arguments c =
-    exit _ _ _ (λ s. by make_many (told _ _ _ c.requires.2 part_many) (next exact_targets_from (any c.in_ok-targets.ensures) (after _ c.in_ok-callee.ensures s)))
+    exit _ _ _ (λ s. by make_many (told _ _ _ c.requires.2 part_many)
+    (next exact_targets_from (any c.in_ok-targets.ensures) (after _ c.in_ok-callee.ensures s)))
     c.in_err-arguments.ensures c.from_residual-in_err-arguments.ensures.1
 
 pub returns : goal.returns

@@ -8,4 +8,6 @@ pub returns-in_default : goal.returns-in_default
 returns-in_default c = rw formula_of-emp (clause_missing c.in_default.ensures.taken c.in_default.ensures.stays)
 
 pub returns : goal.returns
-returns c = along _ _ (λ x h. clause_there c.in-Some.ensures.taken x _ h) (λ s. form make_clause part_clause (in_opt _ c.in-Some.ensures.taken s)) c.assertion.ensures
+returns c =
+    along _ _ (λ x h. clause_there c.in-Some.ensures.taken x _ h)
+    (λ s. form make_clause part_clause (in_opt _ c.in-Some.ensures.taken s)) c.assertion.ensures

@@ -8,7 +8,8 @@ use Rattle.gh_parse.proofs.cursor.Parser.declaration.Given as goal
 
 abbrev pub invariant-names : goal.invariant-names
 invariant-names l =
-    Goes EndsHere SpellsLocals (AddsLocals l.fn.locals.items) (tokens_of l.self.rest.now) (tokens_of l.fn.self.rest.now) (λ xs. l.locals.items ++ xs)
+    Goes EndsHere SpellsLocals (AddsLocals l.fn.locals.items) (tokens_of l.self.rest.now) (tokens_of l.fn.self.rest.now)
+    (λ xs. l.locals.items ++ xs)
 
 abbrev pub decreases-names : goal.decreases-names
 decreases-names l = length (tokens_of l.self.rest.now)

@@ -6,7 +6,9 @@ use Rattle.gh_parse.proofs.Turns.{Goes}
 use Rattle.gh_parse.proofs.cursor.Parser.exprs.Given as goal
 
 abbrev pub invariant-members : goal.invariant-members
-invariant-members l = Goes EndsHere (SpellsExprs l.close) (SpellsExprs l.close) (tokens_of l.self.rest.now) (tokens_of l.fn.self.rest.now) (λ es. l.exprs.items ++ es)
+invariant-members l =
+    Goes EndsHere (SpellsExprs l.close) (SpellsExprs l.close) (tokens_of l.self.rest.now) (tokens_of l.fn.self.rest.now)
+    (λ es. l.exprs.items ++ es)
 
 abbrev pub decreases-members : goal.decreases-members
 decreases-members l = length (tokens_of l.self.rest.now)

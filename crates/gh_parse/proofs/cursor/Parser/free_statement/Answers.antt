@@ -9,12 +9,14 @@ use Rattle.gh_parse.proofs.cursor.Parser.free_statement.Goals as goal
 
 pub returns-in_err-at : goal.returns-in_err-at
 returns-in_err-at c =
-    exit _ _ _ (λ s. by make_free (told _ _ _ c.in_ok-expect_key.ensures part_free) (after _ c.in_ok-expect_key.ensures (first (ends_tok first_place refl) s)))
+    exit _ _ _ (λ s. by make_free (told _ _ _ c.in_ok-expect_key.ensures part_free)
+    (after _ c.in_ok-expect_key.ensures (first (ends_tok first_place refl) s)))
     (missing _ _ _ _ _ a_name refl c.in_err-at.ensures) c.from_residual-in_err-at.ensures.1
 
 pub returns-in_err-expect_sign : goal.returns-in_err-expect_sign
 returns-in_err-expect_sign c =
-    exit _ _ _ (λ s. by make_free (told _ _ _ c.in_ok-expect_key.ensures part_free) (after _ c.in_ok-expect_key.ensures (after _ c.in_ok-at.ensures s)))
+    exit _ _ _ (λ s. by make_free (told _ _ _ c.in_ok-expect_key.ensures part_free)
+    (after _ c.in_ok-expect_key.ensures (after _ c.in_ok-at.ensures s)))
     (missing _ _ _ _ _ first_place refl c.in_err-expect_sign.ensures) c.from_residual-in_err-expect_sign.ensures.1
 
 pub returns : goal.returns

@@ -6,7 +6,9 @@ use Rattle.gh_parse.proofs.cursor.Parser.header.Goals as goal
 
 pub returns-then-not-is_sign : goal.returns-then-not-is_sign
 returns-then-not-is_sign c =
-    along _ _ (λ x h. params h) (λ s. by make_header (λ xs r d h. part_header xs r (begins_not c.if-not-is_sign.ensures d) h) s) c.parameters.ensures
+    along _ _ (λ x h. params h)
+    (λ s. by make_header (λ xs r d h. part_header xs r (begins_not c.if-not-is_sign.ensures d) h) s)
+    c.parameters.ensures
 
 pub returns : goal.returns
 returns c = header_none c.in_ok-expect_sign.ensures c.new.ensures.items

@@ -9,13 +9,16 @@ use Rattle.gh_parse.proofs.cursor.Parser.operand.Goals as goal
 
 pub returns-in_err-expect_name : goal.returns-in_err-expect_name
 returns-in_err-expect_name c =
-    exit _ _ _ (λ s. in_operand c.in_default.ensures.taken (at_same c.in_default.ensures.stays s)) (missing _ _ _ _ _ a_name refl c.in_err-expect_name.ensures)
+    exit _ _ _ (λ s. in_operand c.in_default.ensures.taken (at_same c.in_default.ensures.stays s))
+    (missing _ _ _ _ _ a_name refl c.in_err-expect_name.ensures)
     c.from_residual.ensures.1
 
 pub returns-in-Some : goal.returns-in-Some
 returns-in-Some c =
-    subst (λ ts. SpellsOperand ts (Null c.in-Some.span) (tokens_of c.take_key.new.self.rest.now)) (sym c.in-Some.ensures.taken) null_operand
+    subst (λ ts. SpellsOperand ts (Null c.in-Some.span) (tokens_of c.take_key.new.self.rest.now))
+    (sym c.in-Some.ensures.taken) null_operand
 
 pub returns : goal.returns
 returns c =
-    subst (λ ts. SpellsOperand ts (Var c.in_ok-expect_name.field-0) (tokens_of c.expect_name.new.self.rest.now)) (sym (sym c.in_default.ensures.stays ∙ c.in_ok-expect_name.ensures)) variable
+    subst (λ ts. SpellsOperand ts (Var c.in_ok-expect_name.field-0) (tokens_of c.expect_name.new.self.rest.now))
+    (sym (sym c.in_default.ensures.stays ∙ c.in_ok-expect_name.ensures)) variable

@@ -8,7 +8,9 @@ use Rattle.gh_parse.proofs.cursor.Parser.procedures.Goals as goal
 pub returns-in_err-procedure : goal.returns-in_err-procedure
 returns-in_err-procedure c =
     exit _ _ _
-    (λ s. c.procedures.invariant.back _ (by make_all (λ xs r d h. part_all xs r (λ e. let f = c.procedures-test.ensures.1 e in cc) d h) (first ends_all s)))
+    (λ s. c.procedures.invariant.back _
+    (by make_all (λ xs r d h. part_all xs r (λ e. let f = c.procedures-test.ensures.1 e in cc) d h)
+    (first ends_all s)))
     c.in_err-procedure.ensures c.from_residual.ensures.1
 
 pub procedures-smaller : goal.procedures-smaller
@@ -16,7 +18,8 @@ procedures-smaller c = shorter_procedure c.in_ok-procedure.ensures
 
 pub procedures-preserved : goal.procedures-preserved
 procedures-preserved c =
-    all_more _ _ c.procedures.invariant c.in_ok-procedure.ensures (λ e. let f = c.procedures-test.ensures.1 e in cc) (procedure_pushed _ _ _ c.in_ok-push.ensures.items)
+    all_more _ _ c.procedures.invariant c.in_ok-procedure.ensures (λ e. let f = c.procedures-test.ensures.1 e in cc)
+    (procedure_pushed _ _ _ c.in_ok-push.ensures.items)
 
 pub returns : goal.returns
 returns c = all_spelled _ c.procedures.invariant (c.procedures-test.ensures.0 refl)

@@ -8,7 +8,8 @@ use Rattle.gh_parse.proofs.cursor.Parser.procedures.Given as goal
 
 abbrev pub invariant-procedures : goal.invariant-procedures
 invariant-procedures l =
-    Goes IsEnd SpellsAll SpellsAll (tokens_of l.self.rest.now) (tokens_of l.fn.self.rest.now) (λ ps. map procedure_of l.procedures.items ++ ps)
+    Goes IsEnd SpellsAll SpellsAll (tokens_of l.self.rest.now) (tokens_of l.fn.self.rest.now)
+    (λ ps. map procedure_of l.procedures.items ++ ps)
 
 abbrev pub decreases-procedures : goal.decreases-procedures
 decreases-procedures l = length (tokens_of l.self.rest.now)

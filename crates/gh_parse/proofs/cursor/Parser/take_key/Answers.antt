@@ -14,14 +14,18 @@ returns-in_default c = record {
 pub returns-in_default-symbol : goal.returns-in_default-symbol
 returns-in_default-symbol c = record {
   taken = λ p rest e.
-      c.in_default-symbol.not-Key c.args.wanted (key_next c.args.self.now.rest.now c.first-item.result c.args.wanted p rest c.in-len1-up.len_at_least c.first-item.is e);
+      c.in_default-symbol.not-Key c.args.wanted
+      (key_next c.args.self.now.rest.now c.first-item.result c.args.wanted p rest c.in-len1-up.len_at_least
+      c.first-item.is e);
   stays = refl;
 }
 
 pub returns-then-ne : goal.returns-then-ne
 returns-then-ne c = record {
   taken = λ p rest e. (
-      let f = key_next c.args.self.now.rest.now c.first-item.result c.args.wanted p rest c.in-len1-up.len_at_least c.first-item.is e in
+      let f =
+      key_next c.args.self.now.rest.now c.first-item.result c.args.wanted p rest c.in-len1-up.len_at_least
+      c.first-item.is e in
       let g = c.in-Key.is in
       let same : c.in-Key.word ≡ c.args.wanted = cc in
       differs_true the_type _ _ (sym c.if-ne.ensures) same

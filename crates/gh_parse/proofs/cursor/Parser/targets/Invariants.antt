@@ -6,7 +6,9 @@ use Rattle.gh_parse.proofs.Turns.{Goes}
 use Rattle.gh_parse.proofs.cursor.Parser.targets.Given as goal
 
 abbrev pub invariant-names : goal.invariant-names
-invariant-names l = Goes EndsHere (SpellsTargetsFrom l.name) (SpellsTargetsFrom l.fn.first) (tokens_of l.self.rest.now) (tokens_of l.fn.self.rest.now) (λ xs. l.targets.items ++ xs)
+invariant-names l =
+    Goes EndsHere (SpellsTargetsFrom l.name) (SpellsTargetsFrom l.fn.first) (tokens_of l.self.rest.now)
+    (tokens_of l.fn.self.rest.now) (λ xs. l.targets.items ++ xs)
 
 abbrev pub decreases-names : goal.decreases-names
 decreases-names l = length (tokens_of l.self.rest.now)

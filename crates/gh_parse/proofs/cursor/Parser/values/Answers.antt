@@ -6,4 +6,5 @@ use Rattle.gh_parse.proofs.cursor.Parser.values.Goals as goal
 pub returns : goal.returns
 returns c =
     along _ _ (λ x h. values_at x c.in_default.ensures.stays h)
-    (λ s. by make_values (λ xs r d h. part_values xs r (begins_not c.in_default.ensures.taken d) h) (at_same c.in_default.ensures.stays s)) c.exprs.ensures
+    (λ s. by make_values (λ xs r d h. part_values xs r (begins_not c.in_default.ensures.taken d) h)
+    (at_same c.in_default.ensures.stays s)) c.exprs.ensures

@@ -9,5 +9,7 @@ pub returns : goal.returns
 returns c =
     let P = program_of c.args.self.now in
     let s = c.self.inside in
-    let counted : KeepsCounts P s.count s.starts = subst (λ (proc : whole.Program). KeepsCounts (program_of proc) s.count s.starts) c.self.view_is c.self.invariant in
+    let counted : KeepsCounts P s.count s.starts =
+    subst (λ (proc : whole.Program). KeepsCounts (program_of proc) s.count s.starts) c.self.view_is
+    c.self.invariant in
     c.new.ensures P (conditions P) counted.starts_are (sym counted.all)

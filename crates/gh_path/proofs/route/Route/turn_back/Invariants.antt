@@ -6,7 +6,8 @@ use Rattle.gh_path.proofs.route.Route.turn_back.Given as goal
 
 abbrev pub invariant-loop-last : goal.invariant-loop-last
 invariant-loop-last l = record {
-  behind : (nodes : List Node) (ws : List Way) → AreBehind nodes [] l.initial.self.taken.items ws → AreBehind nodes [] l.self.taken.items ws;
+  behind : (nodes : List Node) (ws : List Way) → AreBehind nodes [] l.initial.self.taken.items ws
+      → AreBehind nodes [] l.self.taken.items ws;
   weighs : weights l.self.taken.items ≡ weights l.initial.self.taken.items;
 }
 

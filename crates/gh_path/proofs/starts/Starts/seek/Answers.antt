@@ -24,9 +24,12 @@ returns-then-before-root-clause-is c = λ P cs are.
     let none : Root = record { procedure = 0; start = Entry; node = 0; count = 0 } in
     let x : Root = get_or rs i none in
     let here = c.loop-index.invariant.after P cs are in
-    let from = roots_go P s.nodes rs i x here.0 c.loop-index-test.true (get_or_default rs i none x c.loop-index-test.true) here.1 in (
+    let from =
+    roots_go P s.nodes rs i x here.0 c.loop-index-test.true (get_or_default rs i none x c.loop-index-test.true)
+    here.1 in (
       here.0,
-      subst (λ (qs : List Root). AreRoots P s.nodes (x ∷ drop (i + 1) qs) here.0) c.as_slice-root-items.ensures.value from,
+      subst (λ (qs : List Root). AreRoots P s.nodes (x ∷ drop (i + 1) qs) here.0) c.as_slice-root-items.ensures.value
+          from,
       here.2,
     )
 
@@ -41,11 +44,15 @@ loop-index-preserved c =
       low = omega (arith, c.loop-index.invariant.low);
       after = λ P cs are.
           let here = c.loop-index.invariant.after P cs are in
-          let from = roots_go P s.nodes rs i x here.0 c.loop-index-test.true (get_or_default rs i none x c.loop-index-test.true) here.1 in
-          start_passed P s.nodes (drop (i + 1) rs) x cs here.0 c.args.place m (m - x.count) (omega (arith, c.if-before-root.false)) from here.2;
+          let from =
+          roots_go P s.nodes rs i x here.0 c.loop-index-test.true
+          (get_or_default rs i none x c.loop-index-test.true) here.1 in
+          start_passed P s.nodes (drop (i + 1) rs) x cs here.0 c.args.place m (m - x.count)
+          (omega (arith, c.if-before-root.false)) from here.2;
     }
 
 pub returns-clause-is : goal.returns-clause-is
 returns-clause-is c = λ P cs are.
     let here = c.loop-index.invariant.after P cs are in
-    starts_over P c.args.self.now.nodes c.as_slice-root-items.result.now c.loop-index.index cs here.0 c.args.place c.loop-index.before c.loop-index-test.false here.1 here.2
+    starts_over P c.args.self.now.nodes c.as_slice-root-items.result.now c.loop-index.index cs here.0 c.args.place
+    c.loop-index.before c.loop-index-test.false here.1 here.2

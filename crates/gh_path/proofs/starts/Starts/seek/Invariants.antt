@@ -8,5 +8,6 @@ abbrev pub invariant-loop-index : goal.invariant-loop-index
 invariant-loop-index l = record {
   low : l.before ≤ l.fn.place;
   after : (P : Program) (cs : List Condition) → AreStarts P l.fn.self cs →
-      (ds : List Condition) × AreRoots P l.fn.self.nodes (drop l.index l.root-items) ds × IsAfter cs l.fn.place ds l.before;
+      (ds : List Condition) × AreRoots P l.fn.self.nodes (drop l.index l.root-items) ds
+      × IsAfter cs l.fn.place ds l.before;
 }

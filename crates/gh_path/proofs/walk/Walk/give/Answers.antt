@@ -20,11 +20,15 @@ returns-clause-next c = λ P cs left.
     let ts = s.route.taken.items in
     let rs = c.hold.new.steps.items in
     let k = c.in_ok-self.field-0 in
-    let these : c.hold.new.held.items ≡ map (λ (t : Taken). t.origin) ts = rw c.as_slice.ensures.value at c.in_ok-hold.ensures.these in
+    let these : c.hold.new.held.items ≡ map (λ (t : Taken). t.origin) ts =
+    rw c.as_slice.ensures.value at c.in_ok-hold.ensures.these in
     let held : AreHeld ns c.hold.new.held.items rs = c.in_ok-hold.ensures.held at.left.held in
     let steps : map step_of rs ≡ steps_taken ns ts = held ∙ ap (steps_from ns) these in
-    let kept : condition.Condition = record { procedure = s.present.procedure; start = s.present.start; steps = c.hold.new.steps; check = k } in
-    let is = kept_is s.present.procedure (start_of s.present.start) (map step_of rs) (steps_taken ns ts) (check_of k) (asked_of a) steps c.in_ok-self.ensures in (
+    let kept : condition.Condition =
+    record { procedure = s.present.procedure; start = s.present.start; steps = c.hold.new.steps; check = k } in
+    let is =
+    kept_is s.present.procedure (start_of s.present.start) (map step_of rs) (steps_taken ns ts) (check_of k)
+    (asked_of a) steps c.in_ok-self.ensures in (
       at.rest,
       at.are ∙ ap (λ d. d ∷ at.rest) (sym is),
       left_with P s at.rest c.hold.new.held kept at.left held,

@@ -21,7 +21,9 @@ loop-self-preserved c =
       low = omega (arith, c.loop-self.invariant.low, c.in_ok-reach.ensures.given);
       near = omega (arith, c.in_ok-reach.ensures.given, c.loop-self-test.true);
       passed = λ P cs before.
-          pass_one P c.args.self.now s t cs c.in_ok-reach.field-0 c.loop-self.invariant.low (c.loop-self.invariant.passed P cs before) c.in_ok-reach.ensures.come c.in_ok-reach.ensures.given c.in_ok-reach.ensures.end;
+          pass_one P c.args.self.now s t cs c.in_ok-reach.field-0 c.loop-self.invariant.low
+          (c.loop-self.invariant.passed P cs before) c.in_ok-reach.ensures.come c.in_ok-reach.ensures.given
+          c.in_ok-reach.ensures.end;
     }
 
 pub returns : goal.returns

@@ -12,7 +12,7 @@ invariant_of-self g c =
 
 pub invariant_of-self-then-mark-length : goal.invariant_of-self-then-mark-length
 invariant_of-self-then-mark-length g c =
-    let s = c.self.inside.learner in
+    let s = c.self.inside.search in
     let a = g.T.Theory.asserted c.self.inside.theory in
     let added = added_cut s c.add.new.self c.args.clause c.in_ok-add.ensures.ok in
     let long : length c.steps.result.now ≡ length c.add.new.self.trail = ap length c.steps.ensures.steps in
@@ -24,7 +24,7 @@ invariant_of-self-then-mark-length g c =
 
 pub invariant_of-self-else-mark-length : goal.invariant_of-self-else-mark-length
 invariant_of-self-else-mark-length g c =
-    let s = c.self.inside.learner in
+    let s = c.self.inside.search in
     let a = g.T.Theory.asserted c.self.inside.theory in
     let added = added_cut s c.add.new.self c.args.clause c.in_ok-add.ensures.ok in
     let long : length c.steps.result.now ≡ length c.add.new.self.trail = ap length c.steps.ensures.steps in

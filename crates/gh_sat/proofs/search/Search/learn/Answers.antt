@@ -3,7 +3,7 @@ use Rattle.std.specs.Prelude.{IfOk, OnErr}
 use Rattle.std.specs.declared.alloc.AllocError.{AllocError}
 use Rattle.gh_base.specs.declared.atom.Lit.{Lit}
 use Rattle.gh_base.specs.declared.sizes.Sizes.{Sizes}
-use Rattle.gh_sat.specs.declared.learner.Learnt.{Learnt}
+use Rattle.gh_sat.specs.declared.clause_search.Learnt.{Learnt}
 use Rattle.gh_sat.specs.Trail.{SearchState}
 use Rattle.gh_sat.specs.Learn.{add_clause}
 use Rattle.gh_sat.specs.Theory.{IsBeside}
@@ -19,5 +19,5 @@ pub invariant_of-self : goal.invariant_of-self
 invariant_of-self g c =
     let T = g.T.Theory in
     let theory = c.self.inside.theory in
-    kept T.valid (T.asserted theory) (T.sizes theory) c.self.inside.learner c.learn.new.self c.learn.result
+    kept T.valid (T.asserted theory) (T.sizes theory) c.self.inside.search c.learn.new.self c.learn.result
     c.self.invariant c.learn.ensures.added c.learn.ensures.err

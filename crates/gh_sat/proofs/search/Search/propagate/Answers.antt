@@ -9,7 +9,7 @@ use Rattle.gh_sat.proofs.search.Search.propagate.Goals as goal
 pub invariant_of-self : goal.invariant_of-self
 invariant_of-self g c =
     beside_grow g.T.Theory.valid (g.T.Theory.asserted c.self.inside.theory) (g.T.Theory.sizes c.self.inside.theory)
-    c.self.inside.learner c.propagate-conflict.new.self c.steps-before.ensures.sound c.self.invariant
+    c.self.inside.search c.propagate-conflict.new.self c.steps-before.ensures.sound c.self.invariant
     c.propagate-conflict.ensures.moves
 
 pub returns-then-is_some-clause-last : goal.returns-then-is_some-clause-last
@@ -20,7 +20,7 @@ returns-then-is_some-clause-last g c =
 pub refute-requires-clause-consistent : goal.refute-requires-clause-consistent
 refute-requires-clause-consistent g c =
     (beside_grow g.T.Theory.valid (g.T.Theory.asserted c.self.inside.theory) (g.T.Theory.sizes c.self.inside.theory)
-    c.self.inside.learner c.propagate-conflict.new.self c.steps-before.ensures.sound c.self.invariant
+    c.self.inside.search c.propagate-conflict.new.self c.steps-before.ensures.sound c.self.invariant
     c.propagate-conflict.ensures.moves).2
 
 pub invariant_of-self-in-Ok : goal.invariant_of-self-in-Ok
@@ -30,20 +30,20 @@ invariant_of-self-in-Ok g c =
     let b = g.T.Theory.asserted c.tell.new.theory in
     let z = g.T.Theory.sizes c.self.inside.theory in
     let w = g.T.Theory.sizes c.tell.new.theory in
-    let grown = beside_grow g.T.Theory.valid a z c.self.inside.learner mid c.steps-before.ensures.sound c.self.invariant
+    let grown = beside_grow g.T.Theory.valid a z c.self.inside.search mid c.steps-before.ensures.sound c.self.invariant
     c.propagate-conflict.ensures.moves in
     let told = beside_told g.T.Theory.valid a b z w mid grown c.tell.ensures.told c.tell.ensures.sizes in
-    beside_answer g.T.Theory.valid b w mid c.refute.new.learner c.in-Ok.answer told c.in-Ok.ensures.added
+    beside_answer g.T.Theory.valid b w mid c.refute.new.search c.in-Ok.answer told c.in-Ok.ensures.added
     c.in-Ok.ensures.same
 
 pub retract-requires-clause-present : goal.retract-requires-clause-present
 retract-requires-clause-present g c =
-    present_before c.self.inside.learner c.propagate-conflict.new.self c.refute.new.learner c.steps-before.result.now
+    present_before c.self.inside.search c.propagate-conflict.new.self c.refute.new.search c.steps-before.result.now
     c.steps-before.ensures.sound c.propagate-conflict.ensures.moves c.in-Err.ensures.err c.steps-before.ensures.steps
 
 pub invariant_of-self-in-Err : goal.invariant_of-self-in-Err
 invariant_of-self-in-Err g c =
-    let s = c.self.inside.learner in
+    let s = c.self.inside.search in
     let mid = c.propagate-conflict.new.self in
     let a = g.T.Theory.asserted c.self.inside.theory in
     let b = g.T.Theory.asserted c.tell.new.theory in
@@ -63,12 +63,12 @@ invariant_of-self-in-Err g c =
 pub returns-in-Ok-clause-last : goal.returns-in-Ok-clause-last
 returns-in-Ok-clause-last g c =
     let mid = c.propagate-conflict.new.self in
-    let same = same_trail g.T.Theory.valid mid c.refute.new.learner c.in-Ok.answer c.in-Ok.ensures.added
+    let same = same_trail g.T.Theory.valid mid c.refute.new.search c.in-Ok.answer c.in-Ok.ensures.added
     c.in-Ok.ensures.same in
     subst (λ (t : List Step). GivesLast c.args.self.now t) (sym same)
     (subst (λ (t : SearchState). GivesLast t mid.trail) c.self.view_is c.propagate-conflict.ensures.last)
 
 pub returns-in-Ok-clause-consistent : goal.returns-in-Ok-clause-consistent
 returns-in-Ok-clause-consistent g c =
-    calm_answer g.T.Theory.valid c.propagate-conflict.new.self c.refute.new.learner c.in-Ok.answer c.in-Ok.ensures.none
+    calm_answer g.T.Theory.valid c.propagate-conflict.new.self c.refute.new.search c.in-Ok.answer c.in-Ok.ensures.none
     c.in-Ok.ensures.same

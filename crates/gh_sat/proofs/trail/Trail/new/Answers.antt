@@ -3,7 +3,7 @@ use Rattle.std.specs.Prelude.{slice_get}
 use Rattle.gh_base.specs.Assignments.{Partial}
 use Rattle.gh_base.specs.Atoms.{count_of}
 use Rattle.gh_sat.specs.declared.trail.Step.{Step}
-use Rattle.gh_sat.proofs.ListLemmas.{le_along, zero_le}
+use Rattle.gh_sat.proofs.ListLemmas.{le_along}
 use Rattle.gh_sat.proofs.TrailLemmas.{values_none}
 use Rattle.gh_sat.proofs.trail.Trail.new.Goals as goal
 
@@ -15,8 +15,6 @@ invariant_of-result c =
     let e = c.in_ok-places.ensures in (
       rw e.steps (values_none p c.in_ok-values.ensures.none valid.all valid.room),
       rw e.steps (λ (i : ℕ) (x : Step) (at : slice_get [] i ≡ Some x). cc),
-      λ a lt. absurd (omega arith),
-      zero_le (count_of p.sizes),
       e.places ∙ count,
       le_along count refl e.room,
     )

@@ -4,11 +4,11 @@ use Rattle.std.specs.Prelude.{slice_set, vec_capacity}
 use Rattle.gh_base.specs.Assignments.{Partial, with_value}
 use Rattle.gh_base.specs.Atoms.{IsInRange, count_of, number_of}
 use Rattle.gh_sat.specs.declared.trail.Step.{Step}
-use Rattle.gh_sat.specs.Trail.{Line, IsFree, AreValues, ArePlaces, IsPassed}
+use Rattle.gh_sat.specs.Trail.{Line, IsFree, AreValues, ArePlaces}
 use Rattle.gh_sat.specs.contracts.trail.Trail.{the_view, the_invariant}
 use Rattle.gh_sat.specs.declared.trail.Trail.TheInside.{Inside}
 use Rattle.gh_sat.proofs.ListLemmas.{le_along, le_le, one_less}
-use Rattle.gh_sat.proofs.TrailLemmas.{room_for, values_more, places_more, passed_set, steps_of}
+use Rattle.gh_sat.proofs.TrailLemmas.{room_for, values_more, places_more, steps_of}
 use Rattle.gh_sat.proofs.trail.Trail.put.Goals as goal
 
 range : (s : Inside) (now : Line) (x : Step) → the_view s ≡ now → IsInRange now.sizes x.lit.atom
@@ -21,31 +21,28 @@ free s now x is h = subst (λ (t : Line). IsFree t.steps x.lit.atom) (sym is) h
 
 room : (s : Inside) (x : Step) → the_invariant s → IsInRange s.values.sizes x.lit.atom → IsFree s.steps.items x.lit.atom
     → length s.steps.items + 1 ≤ vec_capacity s.steps
-room s x i r f = le_le (room_for s.values s.steps.items x.lit.atom i.0 f r) (le_along (sym i.0.long) refl i.5)
+room s x i r f = le_le (room_for s.values s.steps.items x.lit.atom i.0 f r) (le_along (sym i.0.long) refl i.3)
 
-more : (p q : Partial) (places places' : List ℕ) (old new : List Step) (cursor number len capacity capacity' : ℕ)
-    (x : Step) → AreValues p old → ArePlaces p.sizes places old → IsPassed p cursor
-    → cursor ≤ count_of p.sizes → length places ≡ count_of p.sizes → count_of p.sizes ≤ capacity → new ≡ old ++ x ∷ []
+more : (p q : Partial) (places places' : List ℕ) (old new : List Step) (number len capacity capacity' : ℕ)
+    (x : Step) → AreValues p old → ArePlaces p.sizes places old → length places ≡ count_of p.sizes
+    → count_of p.sizes ≤ capacity → new ≡ old ++ x ∷ []
     → q ≡ with_value p x.lit.atom (Some x.lit.positive) → capacity' ≡ capacity
     → number ≡ number_of p.sizes x.lit.atom → len ≡ length old → places' ≡ slice_set places number len
     → IsInRange p.sizes x.lit.atom → IsFree old x.lit.atom
-    → AreValues q new × ArePlaces q.sizes places' new × IsPassed q cursor × (cursor ≤ count_of q.sizes)
+    → AreValues q new × ArePlaces q.sizes places' new
     × (length places' ≡ count_of q.sizes) × (count_of q.sizes ≤ capacity')
-more p q places places' old new cursor number len capacity capacity' x v at passed up long room is made same num place
-    set r f =
+more p q places places' old new number len capacity capacity' x v at long room is made same num place set r f =
     let n : ℕ = number_of p.sizes x.lit.atom in
     let made_places : places' ≡ slice_set places n (length old) =
     set ∙ ap (λ k. slice_set places k len) num ∙ ap (slice_set places n) place in
     let goal_of : Partial → List ℕ → List Step → Type 0 =
-    λ w ps steps. AreValues w steps × ArePlaces w.sizes ps steps × IsPassed w cursor × (cursor ≤ count_of w.sizes)
+    λ w ps steps. AreValues w steps × ArePlaces w.sizes ps steps
     × (length ps ≡ count_of w.sizes) × (count_of w.sizes ≤ capacity') in
     subst (λ (w : Partial). goal_of w places' new) (sym made)
     (subst (λ ps. goal_of (with_value p x.lit.atom (Some x.lit.positive)) ps new) (sym made_places)
     (subst (goal_of (with_value p x.lit.atom (Some x.lit.positive)) (slice_set places n (length old))) (sym is) (
       values_more p old x v f r,
       places_more p.sizes places old x at v.range f r long,
-      passed_set p cursor x.lit.atom x.lit.positive passed,
-      up,
       length-set places n (length old) ∙ long,
       le_along refl (sym same) room,
     )))
@@ -67,9 +64,9 @@ invariant_of-self c =
     let place : c.len.result ≡ length s.steps.items = omega arith in
     let number : c.number-number.result ≡ number_of s.values.sizes c.args.step.lit.atom =
     c.number-number.ensures.number ∙ ap (λ z. number_of z c.args.step.lit.atom) c.sizes.ensures.sizes in
-    more s.values c.set.new.self s.places.items _ s.steps.items c.push_reserved.new.self.items s.cursor
+    more s.values c.set.new.self s.places.items _ s.steps.items c.push_reserved.new.self.items
     c.number-number.result c.len.result (vec_capacity s.steps) (vec_capacity c.push_reserved.new.self) c.args.step
-    i.0 i.1 i.2 i.3 i.4 i.5 c.push_reserved.ensures.items c.set.ensures.table c.push_reserved.ensures.capacity number
+    i.0 i.1 i.2 i.3 c.push_reserved.ensures.items c.set.ensures.table c.push_reserved.ensures.capacity number
     place refl r f
 
 pub returns-clause-valid : goal.returns-clause-valid

@@ -4,4 +4,7 @@ use Rattle.gh_reduce.specs.Growth.{with_clauses}
 use Rattle.gh_small.proofs.bounding.Numbers.push_counters.Given as goal
 
 abbrev pub invariant-loop-t : goal.invariant-loop-t
-invariant-loop-t l = record { ground : l.ground ≡ with_clauses l.initial.ground (each l.t (counter_row l.fn.self.terms l.fn.self.first l.fn.self.cells)) }
+invariant-loop-t l = record {
+  ground : l.ground
+      ≡ with_clauses l.initial.ground (each l.t (counter_row l.fn.self.terms l.fn.self.first l.fn.self.cells));
+}

@@ -6,5 +6,6 @@ use Rattle.gh_small.proofs.bounding.Numbers.push_leader.Given as goal
 
 abbrev pub invariant-loop-u : goal.invariant-loop-u
 invariant-loop-u l = record {
-  clause : l.clause ≡ positive (leader l.fn.self.first l.t) ∷ negative (is_allocated l.t) ∷ each l.u (λ u. positive (Eq (term u) (term l.t)) ∷ []);
+  clause : l.clause ≡ positive (leader l.fn.self.first l.t) ∷ negative (is_allocated l.t)
+      ∷ each l.u (λ u. positive (Eq (term u) (term l.t)) ∷ []);
 }

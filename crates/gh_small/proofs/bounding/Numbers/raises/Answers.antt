@@ -6,5 +6,7 @@ use Rattle.gh_small.proofs.bounding.Numbers.raises.Goals as goal
 
 pub returns-clause-in_range : goal.returns-clause-in_range
 returns-clause-in_range c =
-    let e : c.from_array.result ≡ raises c.args.self.terms c.args.self.first c.args.self.cells c.args.t c.args.j = search rules in
-    λ s w. subst (AreInRange s) (sym e) (raises_range c.args.self s w c.args.t c.args.j c.requires.within c.requires.below)
+    let e : c.from_array.result ≡ raises c.args.self.terms c.args.self.first c.args.self.cells c.args.t c.args.j =
+    search rules in
+    λ s w. subst (AreInRange s) (sym e)
+    (raises_range c.args.self s w c.args.t c.args.j c.requires.within c.requires.below)

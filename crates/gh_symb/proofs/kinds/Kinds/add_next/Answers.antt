@@ -14,7 +14,8 @@ returns-then-has_next c =
     let k = next c.args.version c.args.of in
     let any : list_any (same_kind k) (map kind_of items) ≡ true =
     any_map (same_kind k) kind_of items ∙ sym (rw (c.as_slice.ensures.value) at c.if-has_next.ensures) in
-    let listed : list_any (same_kind k) c.args.self.now ≡ true = ap (list_any (same_kind k)) (sym c.self.view_is) ∙ any in
+    let listed : list_any (same_kind k) c.args.self.now ≡ true =
+    ap (list_any (same_kind k)) (sym c.self.view_is) ∙ any in
     rw listed refl
 
 pub returns : goal.returns
@@ -23,7 +24,8 @@ returns c =
     let k = next c.args.version c.args.of in
     let any : list_any (same_kind k) (map kind_of items) ≡ false =
     any_map (same_kind k) kind_of items ∙ sym (rw (c.as_slice.ensures.value) at c.if-has_next.ensures) in
-    let more : map kind_of c.push.new.self.items ≡ map kind_of items ++ k ∷ [] = ap (map kind_of) c.in_ok-push.ensures.items ∙ map-append kind_of items (Next c.args.version c.args.of ∷ []) in
+    let more : map kind_of c.push.new.self.items ≡ map kind_of items ++ k ∷ [] =
+    ap (map kind_of) c.in_ok-push.ensures.items ∙ map-append kind_of items (Next c.args.version c.args.of ∷ []) in
     let plain : map kind_of c.push.new.self.items ≡ added k (map kind_of items) = rw any more in
     plain ∙ ap (added k) c.self.view_is
 
@@ -33,5 +35,6 @@ invariant_of-self-2 c =
     let k = next c.args.version c.args.of in
     let any : list_any (same_kind k) (map kind_of items) ≡ false =
     any_map (same_kind k) kind_of items ∙ sym (rw (c.as_slice.ensures.value) at c.if-has_next.ensures) in
-    let more : map kind_of c.push.new.self.items ≡ map kind_of items ++ k ∷ [] = ap (map kind_of) c.in_ok-push.ensures.items ∙ map-append kind_of items (Next c.args.version c.args.of ∷ []) in
+    let more : map kind_of c.push.new.self.items ≡ map kind_of items ++ k ∷ [] =
+    ap (map kind_of) c.in_ok-push.ensures.items ∙ map-append kind_of items (Next c.args.version c.args.of ∷ []) in
     subst AreListed (sym more) (next_listed (map kind_of items) c.args.version c.args.of c.self.invariant any)

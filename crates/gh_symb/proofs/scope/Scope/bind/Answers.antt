@@ -7,7 +7,8 @@ use Rattle.gh_symb.proofs.scope.Scope.bind.Goals as goal
 pub returns-in-Some : goal.returns-in-Some
 returns-in-Some c =
     let es = c.self.inside.entries.items in
-    let at : IsLastAt es c.args.name.now c.in-Some.place = rw (c.as_slice.ensures.value, c.bytes.ensures.text) at c.in-Some.ensures.found in
+    let at : IsLastAt es c.args.name.now c.in-Some.place =
+    rw (c.as_slice.ensures.value, c.bytes.ensures.text) at c.in-Some.ensures.found in
     bound_again es c.in-Some.place (record { name = c.args.name; term = c.args.term }) at
     ∙ ap (λ bs. bound (bound_by bs) c.args.name.now c.args.term) c.self.view_is
 

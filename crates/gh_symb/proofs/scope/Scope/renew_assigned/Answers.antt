@@ -12,12 +12,15 @@ loop-occ-preserved c = λ v.
     let test = some_assigns (statements_view c.args.body.now) in
     let o = c.occ-item.result in
     let i = c.loop-occ.occ-index in
-    let holds : test o.name ≡ true = sym (rw c.bytes.ensures.text at c.some_assigns.ensures) ∙ c.if-not-some_assigns.false in
+    let holds : test o.name ≡ true =
+    sym (rw c.bytes.ensures.text at c.some_assigns.ensures) ∙ c.if-not-some_assigns.false in
     ap (renewed (filter test (names (drop (i + 1) c.args.occs.now)))) (c.in_ok-renew_one.ensures v)
-    ∙ renewed_here test c.args.occs.now i o c.loop-occ-test.true c.occ-item.is holds (state c.loop-occ.kinds c.loop-occ.self v)
+    ∙ renewed_here test c.args.occs.now i o c.loop-occ-test.true c.occ-item.is holds
+    (state c.loop-occ.kinds c.loop-occ.self v)
     ∙ c.loop-occ.invariant v
 
 pub returns : goal.returns
 returns c = λ v.
-    let none : drop c.loop-occ.occ-index c.args.occs.now ≡ [] = drop_of_length-le c.args.occs.now c.loop-occ-test.false in
+    let none : drop c.loop-occ.occ-index c.args.occs.now ≡ [] =
+    drop_of_length-le c.args.occs.now c.loop-occ-test.false in
     rw none at (c.loop-occ.invariant v)

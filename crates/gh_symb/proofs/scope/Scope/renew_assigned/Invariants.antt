@@ -7,5 +7,7 @@ use Rattle.gh_symb.proofs.scope.Scope.renew_assigned.Given as goal
 
 abbrev pub invariant-loop-occ : goal.invariant-loop-occ
 invariant-loop-occ l =
-    (version : ℕ) → renewed (filter (some_assigns (statements_view l.body)) (names (drop l.occ-index l.occs))) (state l.kinds l.self version)
-    ≡ renewed (filter (some_assigns (statements_view l.body)) (names l.occs)) (state l.initial.kinds l.initial.self version)
+    (version : ℕ) → renewed (filter (some_assigns (statements_view l.body)) (names (drop l.occ-index l.occs)))
+    (state l.kinds l.self version)
+    ≡ renewed (filter (some_assigns (statements_view l.body)) (names l.occs))
+    (state l.initial.kinds l.initial.self version)

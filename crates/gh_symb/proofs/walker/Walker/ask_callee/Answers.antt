@@ -17,8 +17,11 @@ returns-clause-ended c =
     let es = c.args.arguments.now in
     let t = state c.use_exprs.new.kinds c.use_exprs.new.self v in
     let used : t ≡ exprs_used es (terms_at c.args.self.now) = c.in_ok-use_exprs.ensures in
-    let walks = c.in_ok-bound.ensures.made ∙ ap (λ b. walked p.needs (terms c.use_exprs.new.kinds b v)) c.in_ok-inside.ensures in
-    subst (λ (q : Terms). EndsWith (walked p.needs (rebound q (bound_inside p (exprs_terms es q)))) c.walk_bound.new.kinds v) used
+    let walks =
+    c.in_ok-bound.ensures.made
+    ∙ ap (λ b. walked p.needs (terms c.use_exprs.new.kinds b v)) c.in_ok-inside.ensures in
+    subst (λ (q : Terms). EndsWith (walked p.needs (rebound q (bound_inside p (exprs_terms es q))))
+    c.walk_bound.new.kinds v) used
     (record { kinds_are = ap (λ (q : Terms). q.kinds) walks; version_is = ap (λ (q : Terms). q.version) walks })
 
 pub returns-clause-read : goal.returns-clause-read
@@ -31,4 +34,5 @@ returns-clause-read c =
     let ts = exprs_terms es t in
     let i = state c.use_exprs.new.kinds c.in_ok-inside.inside v in
     let enters : i ≡ rebound t (bound_inside p ts) = ap (λ b. terms c.use_exprs.new.kinds b v) c.in_ok-inside.ensures in
-    subst (λ (q : Terms). EncodesCheck (check.Sub c.in_ok-bound.bound) (needs_under (Some p) (exprs_terms es q) q)) used (entry_encoded p ts t i c.in_ok-bound.bound enters c.in_ok-bound.ensures.encodes)
+    subst (λ (q : Terms). EncodesCheck (check.Sub c.in_ok-bound.bound) (needs_under (Some p) (exprs_terms es q) q)) used
+    (entry_encoded p ts t i c.in_ok-bound.bound enters c.in_ok-bound.ensures.encodes)

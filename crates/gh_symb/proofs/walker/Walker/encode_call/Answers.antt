@@ -14,18 +14,25 @@ returns-clause-done c =
     let p = procedure_of c.args.callee.now in
     let s = terms_at v in
     let ts = exprs_terms c.args.arguments.now s in
-    let enters : terms_inside v c.in_ok-inside.inside ≡ rebound s (bound_inside p ts) = ap (λ (b : Bindings). terms v.kinds b v.version) c.in_ok-inside.ensures in
+    let enters : terms_inside v c.in_ok-inside.inside ≡ rebound s (bound_inside p ts) =
+    ap (λ (b : Bindings). terms v.kinds b v.version) c.in_ok-inside.ensures in
     let does : terms_inside w c.walk_callee.new.inside ≡ inside_done c.args.callee.now (rebound s (bound_inside p ts)) =
     c.in_ok-step.ensures.done ∙ ap (inside_done c.args.callee.now) enters in
-    let binds : bound_by c.bind_from.new.self ≡ all_bound s.bindings (names c.args.targets.now) (map (λ x. term_of x (terms_inside w c.walk_callee.new.inside)) (results_of p)) =
+    let binds : bound_by c.bind_from.new.self
+    ≡ all_bound s.bindings (names c.args.targets.now)
+    (map (λ x. term_of x (terms_inside w c.walk_callee.new.inside)) (results_of p)) =
     rw (c.as_slice.ensures.value, c.in_ok-step.ensures.scope) at c.in_ok-bind_from.ensures in
     ap (λ (b : Bindings). terms w.kinds b w.version) binds
-    ∙ ap (λ (q : Terms). rebound q (all_bound s.bindings (names c.args.targets.now) (map (λ x. term_of x q) (results_of p)))) does
+    ∙ ap (λ (q : Terms). rebound q
+    (all_bound s.bindings (names c.args.targets.now) (map (λ x. term_of x q) (results_of p)))) does
 
 pub returns-clause-read : goal.returns-clause-read
 returns-clause-read c =
     let v = c.args.self.now in
     let p = procedure_of c.args.callee.now in
     let s = terms_at v in
-    let enters : terms_inside v c.in_ok-inside.inside ≡ rebound s (bound_inside p (exprs_terms c.args.arguments.now s)) = ap (λ (b : Bindings). terms v.kinds b v.version) c.in_ok-inside.ensures in
-    subst (λ (q : Terms). EncodesStep c.in_ok-step.step (inside_read c.args.callee.now q)) enters c.in_ok-step.ensures.read
+    let enters : terms_inside v c.in_ok-inside.inside
+    ≡ rebound s (bound_inside p (exprs_terms c.args.arguments.now s)) =
+    ap (λ (b : Bindings). terms v.kinds b v.version) c.in_ok-inside.ensures in
+    subst (λ (q : Terms). EncodesStep c.in_ok-step.step (inside_read c.args.callee.now q)) enters
+    c.in_ok-step.ensures.read

@@ -7,4 +7,5 @@ pub returns : goal.returns
 returns c =
     let t = c.args.target.now in
     let names = in_expr c.args.value.now in
-    first_append _ (assigned (t ∷ []) ∷ mentioned t ∷ []) (map mentioned names) _ _ _ c.earlier.ensures c.in_assigned.ensures (first_map _ mentioned names _ c.in_expr.ensures)
+    first_append _ (assigned (t ∷ []) ∷ mentioned t ∷ []) (map mentioned names) _ _ _ c.earlier.ensures
+    c.in_assigned.ensures (first_map _ mentioned names _ c.in_expr.ensures)

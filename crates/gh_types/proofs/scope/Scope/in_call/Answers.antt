@@ -7,16 +7,23 @@ use Rattle.gh_types.proofs.scope.Scope.in_call.Goals as goal
 
 pub returns-after-arguments-len : goal.returns-after-arguments-len
 returns-after-arguments-len c =
-    first_counted (map procedure_of c.args.self.now.procedures.now) (procedure_of c.args.self.now.own.now) c.args.targets.now c.args.callee.now c.args.arguments.now c.unless.result
+    first_counted (map procedure_of c.args.self.now.procedures.now) (procedure_of c.args.self.now.own.now)
+    c.args.targets.now c.args.callee.now c.args.arguments.now c.unless.result
     (procedure_of c.in-Some.procedure.now) c.if-arguments-len.counts c.in-Some.ensures
     (λ wrong. elim c.if-arguments-len.branch [
-      | then-arguments-len w ↦ inr (λ same. eqb-false _ _ (sym w.counts-is ∙ wrong) (same ∙ sym (w.len-then-arguments-len.ensures ∙ c.in-Some.procedure.now.results.ok.0)))
-      | else-arguments-len w ↦ inl (λ same. w.if-arguments-len.false (same ∙ sym (c.len.ensures ∙ c.in-Some.procedure.now.parameters.ok.0)))
+      | then-arguments-len w ↦ inr
+          (λ same. eqb-false _ _ (sym w.counts-is ∙ wrong)
+          (same ∙ sym (w.len-then-arguments-len.ensures ∙ c.in-Some.procedure.now.results.ok.0)))
+      | else-arguments-len w ↦ inl
+          (λ same. w.if-arguments-len.false (same ∙ sym (c.len.ensures ∙ c.in-Some.procedure.now.parameters.ok.0)))
     ])
     (λ differs. elim c.if-arguments-len.branch [
       | then-arguments-len w ↦ elim differs [
-        | inl arguments ↦ absurd (arguments (w.if-arguments-len.true ∙ (c.len.ensures ∙ c.in-Some.procedure.now.parameters.ok.0)))
-        | inr targets ↦ w.counts-is ∙ ne_eqb _ _ (λ same. targets (same ∙ (w.len-then-arguments-len.ensures ∙ c.in-Some.procedure.now.results.ok.0)))
+        | inl arguments ↦ absurd (arguments
+            (w.if-arguments-len.true ∙ (c.len.ensures ∙ c.in-Some.procedure.now.parameters.ok.0)))
+        | inr targets ↦ w.counts-is
+            ∙ ne_eqb _ _ (λ same. targets
+            (same ∙ (w.len-then-arguments-len.ensures ∙ c.in-Some.procedure.now.results.ok.0)))
       ]
       | else-arguments-len w ↦ w.counts-is ∙ ne_eqb _ _ w.if-arguments-len.false
     ])
@@ -24,5 +31,6 @@ returns-after-arguments-len c =
 
 pub returns-in-None : goal.returns-in-None
 returns-in-None c =
-    first_unknown (map procedure_of c.args.self.now.procedures.now) (procedure_of c.args.self.now.own.now) c.args.targets.now c.args.callee.now c.args.arguments.now c.unless-in-None.result
+    first_unknown (map procedure_of c.args.self.now.procedures.now) (procedure_of c.args.self.now.own.now)
+    c.args.targets.now c.args.callee.now c.args.arguments.now c.unless-in-None.result
     c.in-None.ensures c.unless-in-None.ensures

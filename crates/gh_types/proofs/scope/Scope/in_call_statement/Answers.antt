@@ -9,7 +9,9 @@ returns c =
     let es = c.args.arguments.now in
     let names = ts ++ in_exprs es in
     first_cons _ (assigned ts) _ _ _ _ c.earlier-2.ensures c.in_ok-of_targets.ensures (
-    first_cons _ (called ts c.args.callee.now es) (map mentioned names) _ _ _ c.earlier.ensures c.in_call-of_call.ensures (
-    first_map _ mentioned names _ (first_append _ ts (in_exprs es) _ _ _ c.earlier-inside.ensures c.in_occurrences.ensures c.in_exprs.ensures)
+    first_cons _ (called ts c.args.callee.now es) (map mentioned names) _ _ _ c.earlier.ensures
+    c.in_call-of_call.ensures (
+    first_map _ mentioned names _
+    (first_append _ ts (in_exprs es) _ _ _ c.earlier-inside.ensures c.in_occurrences.ensures c.in_exprs.ensures)
     )
     )

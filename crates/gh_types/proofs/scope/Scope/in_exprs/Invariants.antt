@@ -8,4 +8,5 @@ use Rattle.gh_types.proofs.scope.Scope.in_exprs.Given as goal
 
 abbrev pub invariant-loop-expr : goal.invariant-loop-expr
 invariant-loop-expr l =
-    IsFirstIn (OccurrenceErrors (procedure_of l.self.own.now) l.setting) (flat_map in_expr (take l.expr-index l.exprs)) l.first
+    IsFirstIn (OccurrenceErrors (procedure_of l.self.own.now) l.setting) (flat_map in_expr (take l.expr-index l.exprs))
+    l.first

@@ -10,5 +10,7 @@ pub returns : goal.returns
 returns c =
     let own = procedure_of c.args.self.now.own.now in
     first_either _ _ _ _ _ c.earlier.ensures
-    (first_without (HasName (variables_of own) c.args.occurrence.now.name) _ _ _ _ c.is_variable.ensures c.unless.ensures)
-    (first_with (Forbidden own c.args.setting c.args.occurrence.now.name) c.is_forbidden.result _ _ _ c.is_forbidden.ensures c.unless-2.ensures)
+    (first_without (HasName (variables_of own) c.args.occurrence.now.name) _ _ _ _ c.is_variable.ensures
+    c.unless.ensures)
+    (first_with (Forbidden own c.args.setting c.args.occurrence.now.name) c.is_forbidden.result _ _ _
+    c.is_forbidden.ensures c.unless-2.ensures)

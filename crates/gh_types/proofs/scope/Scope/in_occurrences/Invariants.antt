@@ -6,4 +6,5 @@ use Rattle.gh_types.specs.Faults.{IsFirstIn}
 use Rattle.gh_types.proofs.scope.Scope.in_occurrences.Given as goal
 
 abbrev pub invariant-loop-occurrence : goal.invariant-loop-occurrence
-invariant-loop-occurrence l = IsFirstIn (OccurrenceErrors (procedure_of l.self.own.now) Inside) (take l.occurrence-index l.occurrences) l.first
+invariant-loop-occurrence l =
+    IsFirstIn (OccurrenceErrors (procedure_of l.self.own.now) Inside) (take l.occurrence-index l.occurrences) l.first

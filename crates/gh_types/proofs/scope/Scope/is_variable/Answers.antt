@@ -11,8 +11,10 @@ returns-then-is_parameter c =
     let q = procedure_of c.args.self.now.own.now in
     let rest = q.results ++ locals_of q in
     let same : variables_of q ≡ q.parameters ++ rest = append_assoc q.parameters q.results (locals_of q) in
-    let named = λ (os : List Occ). HasName os c.args.name.now.name in
-    (λ t. subst named (sym same) (name_left q.parameters rest _ (c.is_parameter.ensures.0 t)), λ a. c.if-is_parameter.true)
+    let named = λ (os : List Occ). HasName os c.args.name.now.name in (
+      λ t. subst named (sym same) (name_left q.parameters rest _ (c.is_parameter.ensures.0 t)),
+      λ a. c.if-is_parameter.true,
+    )
 
 pub returns-else-is_parameter : goal.returns-else-is_parameter
 returns-else-is_parameter c =

@@ -1,0 +1,65 @@
+# `make help` tells the targets.
+PREFIX ?= /usr/local
+DESTDIR ?=
+BUILD ?= build
+VERSION := $(shell sed -n 's/^\#\# \([0-9][0-9.]*\).*/\1/p' CHANGELOG.md 2>/dev/null | head -n 1)
+DEB_VERSION := $(or $(VERSION),0.1)
+ROOT := $(DESTDIR)$(PREFIX)
+JOBS ?= $(shell nproc)
+
+.PHONY: help quick proved programs manual install test gate deb clean
+
+help:
+	@echo 'make quick                 build/grass and build/lens without a proof: minutes; build/UNPROVED says so'
+	@echo 'make proved                the same, proved: more than an hour the first time'
+	@echo 'make install PREFIX=/usr   copies programs, manual pages, bash completion and editor files (DESTDIR, too)'
+	@echo 'make test                  what needs no proof: pages, examples, damaged inputs; ten minutes'
+	@echo 'make gate                  the gate, .ci/run: proofs and all tests'
+	@echo 'make deb                   a Debian package of the proved programs, in build/'
+	@echo 'make clean                 removes build/ and the answers of examples/'
+
+quick:
+	@tools/build-quick $(BUILD)
+
+# `rt run` proves a program, builds it and runs it once; its file data/nop.txt or no file is what that run reads.
+proved:
+	cd crates/grass && rt run -- check nop.txt
+	cd crates/lens && rt run -- help
+	mkdir -p $(BUILD)
+	rm -f $(BUILD)/UNPROVED
+	cp crates/grass/out/grass crates/lens/out/lens $(BUILD)/
+	echo "sources $$(tools/source-checksum)" > $(BUILD)/PROVED
+
+# Whatever is built, proved or not; without any, `quick`.
+programs:
+	@test -x $(BUILD)/grass -a -x $(BUILD)/lens || $(MAKE) quick
+
+manual: programs
+	@tools/man-pages $(BUILD)/manual $(BUILD)/lens
+
+install: manual
+	install -d $(ROOT)/bin $(ROOT)/share/man/man1 $(ROOT)/share/bash-completion/completions
+	install -d $(ROOT)/share/vim/vimfiles/syntax $(ROOT)/share/grass
+	install -m 755 $(BUILD)/grass $(BUILD)/lens $(ROOT)/bin/
+	install -m 644 $(BUILD)/manual/grass.1 $(BUILD)/manual/lens.1 $(ROOT)/share/man/man1/
+	install -m 644 $(BUILD)/manual/grass.bash $(ROOT)/share/bash-completion/completions/grass
+	install -m 644 $(BUILD)/manual/lens.bash $(ROOT)/share/bash-completion/completions/lens
+	install -m 644 tools/grass.vim $(ROOT)/share/vim/vimfiles/syntax/grass.vim
+	install -m 644 tools/grass.tmLanguage.json $(ROOT)/share/grass/
+	@test ! -e $(BUILD)/UNPROVED || echo 'note: the programs that were installed are not proved'
+
+test: quick
+	tools/check-docs $(BUILD)/grass $(BUILD)/lens
+	$(MAKE) -s -C examples -j $(JOBS) GRASS=$(abspath $(BUILD)/grass)
+	tools/damage 1000 1 $(BUILD)/grass
+
+gate:
+	.ci/run
+
+deb: proved
+	$(MAKE) manual
+	tools/make-deb $(BUILD) $(DEB_VERSION)
+
+clean:
+	rm -rf $(BUILD)
+	$(MAKE) -s -C examples clean

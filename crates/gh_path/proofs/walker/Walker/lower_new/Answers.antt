@@ -1,9 +1,0 @@
-use Rattle.std.proofs.Common.{refl}
-use Rattle.gh_path.specs.Graphs.{made}
-use Rattle.gh_path.specs.declared.node.Step.TheVariants as step
-use Rattle.gh_path.proofs.ShownLemmas.{add_move}
-use Rattle.gh_path.proofs.walker.Walker.lower_new.Goals as goal
-
-pub returns-clause-adds : goal.returns-clause-adds
-returns-clause-adds c = λ g shows.
-    add_move c.args.nodes.now c.add.new.self c.in_ok-place.place c.args.next (step.New c.args.target) (made c.args.target.now) g c.in_ok-place.ensures.added c.in_ok-place.ensures.place refl shows
