@@ -121,7 +121,7 @@ fn first<'a, R: Print + Eprint + Alloc<A = Global>>(
 }
 
 /// The drawing of a choice.
-pub(crate) fn chosen<'a, R: Print + Eprint + Files + Alloc<A = Global>>(
+pub(crate) fn choose<'a, R: Print + Eprint + Files + Alloc<A = Global>>(
     rt: &R,
     typed: &Typed,
     conditions: &Conditions,
