@@ -1,5 +1,5 @@
 #!/usr/bin/env python3
-"""Writes programs that are made at random and have every form of the grammar.
+"""Writes random programs that have every form of the grammar.
 
     tools/random_programs.py FOLDER [COUNT [SEED]]
 
