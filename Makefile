@@ -1,4 +1,4 @@
-# `make help` tells the targets.
+# `make help` lists the targets.
 PREFIX ?= /usr/local
 DESTDIR ?=
 BUILD ?= build
@@ -10,18 +10,18 @@ JOBS ?= $(shell nproc)
 .PHONY: help quick proved programs manual install test gate deb clean
 
 help:
-	@echo 'make quick                 build/grass and build/lens without a proof: minutes; build/UNPROVED says so'
-	@echo 'make proved                the same, proved: more than an hour the first time'
-	@echo 'make install PREFIX=/usr   copies programs, manual pages, bash completion and editor files (DESTDIR, too)'
-	@echo 'make test                  what needs no proof: pages, examples, damaged inputs; ten minutes'
-	@echo 'make gate                  the gate, .ci/run: proofs and all tests'
-	@echo 'make deb                   a Debian package of the proved programs, in build/'
-	@echo 'make clean                 removes build/ and the answers of examples/'
+	@echo 'make quick                 builds build/grass and build/lens without a proof, in minutes (build/UNPROVED says so)'
+	@echo 'make proved                builds the same with all proofs: more than an hour the first time'
+	@echo 'make install PREFIX=/usr   installs programs, manual pages, bash completion, editor files (DESTDIR works, too)'
+	@echo 'make test                  tests pages, examples and damaged inputs, without proofs, in ten minutes'
+	@echo 'make gate                  runs the gate, .ci/run: all proofs and all tests'
+	@echo 'make deb                   makes a Debian package of the proved programs, in build/'
+	@echo 'make clean                 removes build/ and the answers in examples/out/'
 
 quick:
 	@tools/build-quick $(BUILD)
 
-# `rt run` proves a program, builds it and runs it once; its file data/nop.txt or no file is what that run reads.
+# `rt run` proves a program, builds it and runs it once: here `grass` on crates/grass/data/nop.txt, and `lens help`.
 proved:
 	cd crates/grass && rt run -- check nop.txt
 	cd crates/lens && rt run -- help
@@ -30,7 +30,7 @@ proved:
 	cp crates/grass/out/grass crates/lens/out/lens $(BUILD)/
 	echo "sources $$(tools/source-checksum)" > $(BUILD)/PROVED
 
-# Whatever is built, proved or not; without any, `quick`.
+# The programs that are in build/, proved or not; if there are none, those of `quick`.
 programs:
 	@test -x $(BUILD)/grass -a -x $(BUILD)/lens || $(MAKE) quick
 
