@@ -1,5 +1,4 @@
 """The rows of axioms and their instances (docs/FORMATS.md)."""
-from typing import Optional
 
 from clauses import Ground
 
@@ -23,7 +22,7 @@ ROWS = {
 }
 
 
-def instance(ground: Ground, row: int, version: int, terms: list) -> Optional[tuple]:
+def instance(ground: Ground, row: int, version: int, terms: list) -> tuple | None:
     """The clause of an instance; None where it is none over these numbers of terms and versions."""
     names, clause = ROWS.get(row, ("", ""))
     if len(names.split()) != len(terms) or version >= ground.versions or max(terms) >= ground.terms:

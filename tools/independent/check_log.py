@@ -9,7 +9,7 @@ The exit status is that of `grass recheck`: 0 valid, 2 other words, 3 a read fau
 ANSWER, 6 a write fault. docs/LOGS.md says what is judged, and by which module."""
 import os, re, sys
 
-from clauses import add_fewer, condition_ground, question_ground
+from clauses import Ground, add_fewer, condition_ground, question_ground
 from logs import judge, read_log
 from paths import conditions
 from rules import check, check_question
@@ -17,15 +17,17 @@ from syntax import Parser, Refused
 from terms import all_symbolic, asked
 
 
+IS_WORD = re.compile(r"(?s)(?!-)[^\udc80-\udcff]+")  # Python has surrogates in the place of bytes that aren't UTF-8
+
+
 def contents(name: str, limit: int, what: str = "") -> bytes:
-    status = 5 if what else 4
     try:
         with open(name, "rb") as file:
             text = file.read(limit + 1)
     except FileNotFoundError:
-        raise Refused(what + "Absent", status)
+        raise Refused(what + "Absent", 5 if what else 4)
     if len(text) > limit:
-        raise Refused(what + "TooLong", status)
+        raise Refused(what + "TooLong", 5 if what else 4)
     return text
 
 
@@ -46,12 +48,12 @@ def recheck(file: str, log: str) -> str:
     return "rechecked: %d of %d valid" % (len(found), len(found))
 
 
-def answer_log(text: str, before: int) -> tuple:
-    """The one section of an answer whose log begins after this number of lines, and its version."""
+def judge_answer(ground: Ground, text: str, before: int):
+    """Judges the one section of an answer whose log begins after this number of lines."""
     version, sections = read_log(text.split("\n", before)[-1], before + 1, "answer")
     if version != 2 or len(sections) != 1:
         raise Refused("answer sections %d of 1" % len(sections), 5)
-    return sections[0], version
+    judge(ground, sections[0], version, "answer")
 
 
 def recheck_smallest(file: str, answer: str) -> str:
@@ -63,10 +65,9 @@ def recheck_smallest(file: str, answer: str) -> str:
     if not head or count != len(found) or not number == drawn <= count or cells > found[number - 1].terms:
         raise Refused("answer line 1", 5)
     if cells:
-        section, version = answer_log(text, head[0].count("\n"))
         ground = condition_ground(found[number - 1])
         add_fewer(ground, cells)
-        judge(ground, section, version, "answer")
+        judge_answer(ground, text, head[0].count("\n"))
     elif head[0] != text:
         raise Refused("answer line %d" % (head[0].count("\n") + 1), 5)
     return "rechecked: condition %d of %d has no counterexample with fewer than %d first cells" % (number, count, cells)
@@ -79,22 +80,19 @@ def recheck_entail(file: str, answer: str) -> str:
     text = contents(answer, 2**26, "answer ").decode("latin-1")
     if not text.startswith("entailed\n"):
         raise Refused("answer line 1", 5)
-    section, version = answer_log(text, 1)
-    judge(ground, section, version, "answer")
+    judge_answer(ground, text, 1)
     return "rechecked: entailed"
 
 
 def main(words: list) -> int:
     mode = {"--smallest": recheck_smallest, "--entail": recheck_entail}.get((words + [""])[0])
     files = words[1:] if mode else words
-    status = 0
     try:
-        is_request = len(files) == 2 and all(word and word[0] != "-" for word in files)
-        if not is_request or any(word.encode(errors="replace").decode() != word for word in files):
+        if len(files) != 2 or not all(map(IS_WORD.fullmatch, files)):
             raise Refused("usage", 2)
-        text = (mode or recheck)(*files)
+        status, text = 0, (mode or recheck)(*files)
     except Refused as refused:
-        text, status = "refused: " + refused.words, refused.status
+        status, text = refused.status, "refused: " + refused.words
     except OSError:
         return 3
     try:

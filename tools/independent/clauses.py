@@ -2,17 +2,14 @@
 
 A literal is a number: an atom is above 0, and its opposite is the same number below 0. A formula is a literal, or a
 tuple: "not" and a formula, "and" or "or" and any formulas, "iff" and two."""
+import itertools
 from typing import Callable
 
 from paths import Access
-from syntax import Acc, And, Cases, Compare, Emp, Free, Leaf, Lseg, Not, PointsTo, Star, Write
+from syntax import Acc, And, Cases, Compare, Emp, Free, Leaf, Lseg, Not, PointsTo, Write
 from terms import Asked, Fresh, Part, Symbolic
 
 TRUE, FALSE = ("and",), ("or",)
-
-
-def negation(formula):
-    return -formula if isinstance(formula, int) else ("not", formula)
 
 
 class Ground:
@@ -41,16 +38,14 @@ class Ground:
         if kind == "not":
             return -self.literal(members[0])
         literals = [self.literal(member) for member in members]
-        d, clauses = self.define(), self.clauses
-        if kind == "and":
-            clauses += [(-d, literal) for literal in literals]
-            clauses.append((d, *[-literal for literal in literals]))
-        elif kind == "or":
-            clauses += [(d, -literal) for literal in literals]
-            clauses.append((-d, *literals))
-        else:
+        d = self.define()
+        if kind == "iff":
             f, g = literals
-            clauses += [(-d, -f, g), (-d, f, -g), (d, f, g), (d, -f, -g)]
+            self.clauses += [(-d, -f, g), (-d, f, -g), (d, f, g), (d, -f, -g)]
+        else:
+            sign = 1 if kind == "and" else -1
+            self.clauses += [(-sign * d, sign * literal) for literal in literals]
+            self.clauses.append((sign * d, *[-sign * literal for literal in literals]))
         return d
 
     def add(self, *formulas):
@@ -65,65 +60,50 @@ class Ground:
             case Leaf(assertion):
                 return self.whole(assertion, 0)
             case Not(inner):
-                return negation(self.boolean(inner))
+                return "not", self.boolean(inner)
         return ("and" if isinstance(it, And) else "or", *map(self.boolean, it.members))
 
-    def footprint(self, it, i: int, z: int):
-        """The term z is in the footprint of the assertion in version i."""
-        match it:
-            case Emp() | Compare():
-                return FALSE
-            case Acc(at) | PointsTo(at, _):
-                return self.equal(z, at)
-            case Lseg(x, y):
-                return "and", self.atom("B", i, x, z, y), -self.equal(z, y)
-            case Star(members):
-                return ("or", *[self.footprint(member, i, z) for member in members])
-            case Cases(test, yes, no):
-                test, yes, no = self.boolean(test), self.footprint(yes, i, z), self.footprint(no, i, z)
-                return "or", ("and", test, yes), ("and", negation(test), no)
+    def cases(self, test, yes, no):
+        return "or", ("and", self.boolean(test), yes), ("and", ("not", self.boolean(test)), no)
 
-    def structure(self, it, i: int):
-        """Some part of the heap of version i meets the assertion."""
+    def meaning(self, it, i: int) -> tuple:
+        """Of an assertion in version i: some part of the heap meets it, and whether a term is in its footprint."""
         match it:
             case Emp():
-                return TRUE
+                return TRUE, lambda z: FALSE
             case Compare():
-                return self.boolean(it)
+                return self.boolean(it), lambda z: FALSE
             case Acc(at):
-                return self.atom("A", i, at)
+                return self.atom("A", i, at), lambda z: self.equal(z, at)
             case PointsTo(at, to):
-                return "and", self.atom("A", i, at), self.equal(self.next[i, at], to)
+                return ("and", self.atom("A", i, at), self.equal(self.next[i, at], to)), lambda z: self.equal(z, at)
             case Lseg(x, y):
-                return self.atom("B", i, x, y, y)
-            case Star(members):
-                apart = [("not", ("and", self.footprint(one, i, z), self.footprint(other, i, z)))
-                         for k, one in enumerate(members) for other in members[k + 1:] for z in self.each]
-                return ("and", *[self.structure(member, i) for member in members], *apart)
+                return self.atom("B", i, x, y, y), lambda z: ("and", self.atom("B", i, x, z, y), -self.equal(z, y))
             case Cases(test, yes, no):
-                test, yes, no = self.boolean(test), self.structure(yes, i), self.structure(no, i)
-                return "or", ("and", test, yes), ("and", negation(test), no)
+                (yes, in_yes), (no, in_no) = self.meaning(yes, i), self.meaning(no, i)
+                return self.cases(test, yes, no), lambda z: self.cases(test, in_yes(z), in_no(z))
+        structures, inside = zip(*[self.meaning(member, i) for member in it.members])  # of a `Star`
+        apart = [("not", ("and", one(z), other(z)))
+                 for k, one in enumerate(inside) for other in inside[k + 1:] for z in self.each]
+        return ("and", *structures, *apart), lambda z: ("or", *[in_member(z) for in_member in inside])
 
     def whole(self, it, i: int):
         """The whole heap of version i meets the assertion."""
-        exact = [("iff", self.atom("A", i, z), self.footprint(it, i, z)) for z in self.each]
-        return ("and", self.structure(it, i), *exact)
+        structure, inside = self.meaning(it, i)
+        return ("and", structure, *[("iff", self.atom("A", i, z), inside(z)) for z in self.each])
 
     def version(self, i: int):
         """What holds of each version: null isn't allocated, each cell hops to a term, and to its successor term."""
         allocated, hop = (lambda x: self.atom("A", i, x)), (lambda x, v: self.atom("H", i, x, v))
-        self.add(-allocated(0))
-        for x in self.each:
-            self.add(("or", -allocated(x), *[hop(x, v) for v in self.each]))
+        self.add(-allocated(0), *[("or", -allocated(x), *[hop(x, v) for v in self.each]) for x in self.each])
         for (version, x), t in self.next.items():  # in the order of the terms
             if version == i:
                 self.add(("or", -allocated(x), hop(x, t)), ("or", allocated(x), self.equal(x, t)))
 
     def keep(self, i: int, changed: Callable):
         """Cells that aren't changed hop in version i + 1 as in version i."""
-        for z in self.each:
-            for v in self.each:
-                self.add(("or", changed(z), ("iff", self.atom("H", i + 1, z, v), self.atom("H", i, z, v))))
+        for z, v in itertools.product(self.each, repeat=2):
+            self.add(("or", changed(z), ("iff", self.atom("H", i + 1, z, v), self.atom("H", i, z, v))))
 
     def change(self, i: int, x: int, allocated: Callable, *hops: int):
         """The next version, in which the cell at x alone is another, and `allocated` says where cells are."""
@@ -145,18 +125,19 @@ class Ground:
             case Free(x):
                 self.change(i, x, lambda z: ("and", before(z), -self.equal(z, x)))
             case Part(given, alternatives):
-                kept = [("and", before(z), negation(self.footprint(given, i, z))) for z in self.each]
-                self.add(self.structure(given, i))
+                structure, inside = self.meaning(given, i)
+                kept = [("and", before(z), ("not", inside(z))) for z in self.each]
+                self.add(structure)
                 returned = [self.returned(alternative, i + 1, kept) for alternative in alternatives]
                 self.add(*(returned[0] if len(returned) == 1 else [("or", *[("and", *it) for it in returned])]))
-                self.keep(i, lambda z: negation(kept[z]))
+                self.keep(i, lambda z: ("not", kept[z]))
 
     def returned(self, after, j: int, kept: list) -> list:
         """What a call or a loop gives back in version j beside the cells that are kept."""
-        both = [(kept[z], self.footprint(after, j, z)) for z in self.each]
-        apart = [("not", ("and", *pair)) for pair in both]
-        return [self.structure(after, j), *apart,
-                *[("iff", self.atom("A", j, z), ("or", *pair)) for z, pair in enumerate(both)]]
+        structure, inside = self.meaning(after, j)
+        both = [(kept[z], inside(z)) for z in self.each]
+        exact = [("iff", self.atom("A", j, z), ("or", *both[z])) for z in self.each]
+        return [structure, *[("not", ("and", *pair)) for pair in both], *exact]
 
 
 def condition_ground(it: Symbolic) -> Ground:
@@ -170,37 +151,31 @@ def condition_ground(it: Symbolic) -> Ground:
     if kind == "access":
         ground.add(-ground.atom("A", last, of))
     elif kind == "part":
-        ground.add(negation(ground.structure(of, last)))
+        ground.add(("not", ground.meaning(of, last)[0]))
     else:
         wholes = [ground.whole(alternative, last) for alternative in of]
-        ground.add(negation(wholes[0] if len(wholes) == 1 else ("or", *wholes)))
+        ground.add(("not", wholes[0] if len(wholes) == 1 else ("or", *wholes)))
     return ground
 
 
 def question_ground(it: Asked) -> Ground:
     ground = Ground(it.terms, 1, it.next)
     ground.version(0)
-    ground.add(ground.boolean(it.left))
-    ground.add(negation(ground.boolean(it.right)))
+    ground.add(ground.boolean(it.left), ("not", ground.boolean(it.right)))
     return ground
 
 
 def add_fewer(ground: Ground, cells: int):
     """Fewer than `cells` classes of terms are allocated in version 0 (docs/FORMATS.md)."""
-    clauses = ground.clauses
-    leads = []
+    add, leads, before = ground.clauses.append, [ground.define() for _ in ground.each], []
     for t in ground.each:
-        leads.append(ground.define())
-        clauses.append((leads[t], -ground.atom("A", 0, t), *[ground.equal(s, t) for s in range(t)]))
-    before = None  # before[j]: more than j of the terms before t lead
+        add((leads[t], -ground.atom("A", 0, t), *[ground.equal(s, t) for s in range(t)]))
     for t in ground.each:
-        more = [ground.define() for _ in range(cells)]
+        more = [ground.define() for _ in range(cells)]  # more[j]: more than j of the terms up to t lead
         for j in range(cells):
-            if j == 0:
-                clauses.append((more[0], -leads[t]))
-            elif before:
-                clauses.append((more[j], -leads[t], -before[j - 1]))
+            if j == 0 or before:  # those of the terms before t
+                add((more[j], -leads[t], *[-it for it in before[j - 1 : j]]))
             if before:
-                clauses.append((more[j], -before[j]))
+                add((more[j], -before[j]))
         before = more
-    clauses.append((-before[cells - 1],))
+    add((-before[cells - 1],))

@@ -28,20 +28,16 @@ def is_lemma(literals: list) -> bool:
             term = joined[term]
         return term
 
-    for is_true, atom in opposites:
-        x, y = sorted(map(leader, atom[1:])) if is_true and atom[0] == "E" else (0, 0)
-        if x != y:
-            joined[y] = x
-    of = {True: set(), False: set()}
-    for is_true, (kind, *numbers) in opposites:
-        if kind == "E":
-            x, y = sorted(map(leader, numbers))
-            of[is_true].add((kind, x, y))
-            of[True].add((kind, x, x))
-            of[True].add((kind, y, y))
-        else:
-            of[is_true].add((kind, numbers[0], *map(leader, numbers[1:])))
-    return not of[True].isdisjoint(of[False])
+    for is_true, (kind, first, *terms) in opposites:
+        if is_true and kind == "E" and leader(first) != leader(*terms):
+            joined[leader(first)] = leader(*terms)
+    true, false = set(), set()
+    for is_true, (kind, first, *terms) in opposites:
+        if kind != "E":
+            (true if is_true else false).add((kind, first, *map(leader, terms)))
+        elif not is_true and leader(first) == leader(*terms):
+            return True
+    return not true.isdisjoint(false)
 
 
 class Propagation:

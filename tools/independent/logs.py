@@ -1,7 +1,7 @@
 """The text of a log, and the first fault of a section (docs/FORMATS.md)."""
 import re
 from collections import namedtuple
-from typing import Optional
+from functools import cache
 
 from axioms import instance
 from clauses import Ground
@@ -11,8 +11,8 @@ from syntax import Refused
 SMALL = r"(?:25[0-5]|2[0-4][0-9]|1[0-9][0-9]|[1-9]?[0-9])"
 NUMBER = r"(?:0|[1-9][0-9]{0,9})"
 ATOM = r"(?:E\.S\.S|B\.S\.S\.S\.S|H\.S\.S\.S|A\.S\.S|D\.N)".replace("S", SMALL).replace("N", NUMBER)
-LINE = r"a(?: S){3,6}|g N|e(?: -?ATOM)*|l(?: -?ATOM)*%s".replace("ATOM", ATOM).replace("S", SMALL).replace("N", NUMBER)
-LINES = {1: re.compile(LINE % ""), 2: re.compile(LINE % r" ;(?: N)*|d(?: N)*".replace("N", NUMBER))}
+LINE = r"(?:a(?: S){3,6}|g N|e(?: -?ATOM)*|l(?: -?ATOM)*%s)\n".replace("ATOM", ATOM).replace("S", SMALL)
+LINES = {it: re.compile((LINE % rest).replace("N", NUMBER)) for it, rest in [(1, ""), (2, " ;(?: N)*|d(?: N)*")]}
 EQUALITY, LONG = re.compile(r"E\.([0-9]+)\.([0-9]+)"), re.compile(r"[0-9]{10}")
 Section = namedtuple("Section", "first lines")  # the number of its first line in the file
 
@@ -24,20 +24,15 @@ def is_spelled(line: str, version: int) -> bool:
 
 def read_log(text: str, first: int = 1, what: str = "log") -> tuple:
     """The version and the sections of a log, or its first line outside the grammar. Lines are numbered from `first`."""
-    lines = text.split("\n")
-    version = {"grass log 1": 1, "grass log 2": 2}.get(lines[0])
-    if version is None or len(lines) == 1:
-        raise Refused("%s line %d" % (what, first), 5)
-    sections = []
-    for number, line in enumerate(lines[1:-1], first + 1):
-        if line == "condition %d" % (len(sections) + 1):
+    lines, sections = re.findall(r"[^\n]*\n|[^\n]+", text) or [""], []
+    version = {"grass log 1\n": 1, "grass log 2\n": 2}.get(lines[0])
+    for number, line in enumerate(lines, first):
+        if version and line == "condition %d\n" % (len(sections) + 1):
             sections.append(Section(number + 1, []))
         elif sections and is_spelled(line, version):
             sections[-1].lines.append(line)
-        else:
+        elif number > first or not version:
             raise Refused("%s line %d" % (what, number), 5)
-    if lines[-1]:
-        raise Refused("%s line %d" % (what, first + len(lines) - 1), 5)
     return version, sections
 
 
@@ -47,43 +42,42 @@ class Judge:
     def __init__(self, ground: Ground, version: int):
         self.ground, self.standing, self.position, self.last = ground, {}, 0, None
         self.propagation = Propagation() if version == 1 else None
-        self.known = {}  # literals by their words
+        self.literal = cache(self.literal)
 
-    def literal(self, word: str) -> Optional[tuple]:
-        """A literal, and it as (is it positive, atom); None where it is out of range."""
+    def literal(self, word: str) -> tuple | None:
+        """A literal, whether it is positive, and its atom; None where it is out of range."""
         kind, *numbers = word.lstrip("-").split(".")
         atom = (kind, *map(int, numbers))
         first = {"E": self.ground.terms, "D": self.ground.definitions}.get(kind, self.ground.versions)
         if atom[1] >= first or max(atom[2:], default=0) >= self.ground.terms:
             return None
-        number = self.ground.atom(*atom)
-        return number if word[0] != "-" else -number, (word[0] != "-", atom)
+        number, is_positive = self.ground.atom(*atom), word[0] != "-"
+        return number if is_positive else -number, is_positive, atom
 
-    def clause(self, kind: str, words: list, hints: list) -> Optional[tuple]:
+    def clause(self, kind: str, words: list, hints: list) -> tuple | None:
         """The clause of a line; None where it isn't as its kind asks."""
         if kind == "a":
             row, version, *terms = map(int, words)
             return instance(self.ground, row, version, terms)
         if kind == "g":
             return self.ground.clauses[int(words[0])] if int(words[0]) < len(self.ground.clauses) else None
-        for word in words:
-            self.known[word] = self.known.get(word) or self.literal(word)
-        if not all(self.known[word] for word in words):
+        literals = [self.literal(word) for word in words]
+        if None in literals:
             return None
-        clause = tuple(self.known[word][0] for word in words)
+        clause = tuple(number for number, _, _ in literals)
         if kind == "e":
-            is_valid = is_lemma([self.known[word][1] for word in words])
+            is_valid = is_lemma([(is_positive, atom) for _, is_positive, atom in literals])
         elif self.propagation:
             is_valid = self.propagation.shows(clause)
         else:
             is_valid = is_shown(clause, (self.standing[hint] for hint in hints))
         return clause if is_valid else None
 
-    def fault(self, line: str) -> Optional[str]:
+    def fault(self, line: str) -> str | None:
         """Takes the next line; its fault, or None."""
         self.position += 1
         front, _, back = line.partition(" ;")
-        kind, *words = front.split(" ")
+        kind, *words = front.split()
         named = [int(word) for word in (words if kind == "d" else back.split())]
         if any(it not in self.standing for it in named) or kind == "d" and len(set(named)) < len(named):
             return "NoSuchLine"

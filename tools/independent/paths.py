@@ -1,9 +1,10 @@
 """Lowered bodies and their paths: the conditions of a program, in order (docs/CLAUSES.md; limits of kinds 4 and 5).
 
 A body is a graph of nodes without a cycle, since a loop on the way is one step. A step is a statement, an `Access`, or
-a comparison that is taken to hold; for a `While` it is the whole loop."""
-import itertools
+a comparison that is taken to hold; for a `While` it is the whole loop. A path is a tuple of steps."""
 from collections import namedtuple
+from functools import reduce
+from itertools import islice
 from typing import Iterator
 
 from rules import limit, loops
@@ -15,28 +16,12 @@ Access = namedtuple("Access", "at")
 Check = namedtuple("Check", "kind place of", defaults=[None])
 # a check that is made on arrival, or None; the ways from here: steps, each with the node that it leads to
 Node = namedtuple("Node", "check ways", defaults=[()])
-# the path before the last step, that step, and how many steps; None is the path without steps
-Path = namedtuple("Path", "before step count")
-
-
-class Condition(namedtuple("Condition", "procedure start path check")):
-    """`start` is a loop, or None for the entry."""
-
-    def steps(self) -> list:
-        found, path = [], self.path
-        while path:
-            found.append(path.step)
-            path = path.before
-        return found[::-1]
-
-
+Condition = namedtuple("Condition", "procedure start steps check")  # `start` is a loop, or None for the entry
 DEAD_END = Node(None)
 
 
 def lower_block(block: Block, rest: Node) -> Node:
-    for statement in reversed(block.statements):
-        rest = lower(statement, rest)
-    return rest
+    return reduce(lambda after, it: lower(it, after), reversed(block.statements), rest)
 
 
 def lower(it, rest: Node) -> Node:
@@ -62,9 +47,8 @@ def access(at: Name, rest: Node) -> Node:
 
 
 def reads(expressions, rest: Node) -> Node:
-    for expression in reversed(expressions):
-        rest = access(expression.at, rest) if isinstance(expression, Read) else rest
-    return rest
+    found = [it.at for it in expressions if isinstance(it, Read)]
+    return reduce(lambda after, at: access(at, after), reversed(found), rest)
 
 
 def lower_test(test, yes: Node, no: Node) -> Node:
@@ -74,42 +58,35 @@ def lower_test(test, yes: Node, no: Node) -> Node:
         case Not(inner):
             return lower_test(inner, no, yes)
         case And(members):
-            for member in reversed(members):
-                yes = lower_test(member, yes, no)
-            return yes
+            return reduce(lambda after, it: lower_test(it, after, no), reversed(members), yes)
         case Or(members):
-            for member in reversed(members):
-                no = lower_test(member, yes, no)
-            return no
-
-
-def starts(procedure: Procedure) -> Iterator[tuple]:
-    """The entry and each loop, with the first node from there."""
-    yield None, lower_block(procedure.body, Node(Check("return", procedure.close)))
-    for loop in loops(procedure):
-        body = lower_block(loop.body, Node(Check("loop end", loop.body.close, loop)))
-        yield loop, lower_test(loop.test, body, DEAD_END)
+            return reduce(lambda after, it: lower_test(it, yes, after), reversed(members), no)
 
 
 def walk(procedure: Procedure) -> Iterator[Condition]:
-    """Depth first, the way of a comparison before that of its opposite; each check on arrival is a condition."""
-    for start, first in starts(procedure):
-        waiting = [(first, None)]
+    """Depth first from the entry and from each loop, the way of a comparison before that of its opposite; each check on
+    arrival is a condition."""
+    starts = [(None, lower_block(procedure.body, Node(Check("return", procedure.close))))]
+    for loop in loops(procedure):
+        body = lower_block(loop.body, Node(Check("loop end", loop.body.close, loop)))
+        starts.append((loop, lower_test(loop.test, body, DEAD_END)))
+    for start, first in starts:
+        waiting = [(first, ())]
         while waiting:
             node, path = waiting.pop()
             if node.check:
                 yield Condition(procedure, start, path, node.check)
-            count = path.count + 1 if path else 1
-            waiting += [(after, Path(path, step, count)) for step, after in reversed(node.ways)]
+            path = path[:256]  # one step more than 256 is kept, to be refused
+            waiting += [(after, path + (step,)) for step, after in reversed(node.ways)]
 
 
 def conditions(program: Program) -> list:
     found = []
     for procedure in program.procedures:
-        found += itertools.islice(walk(procedure), 1025)
+        found += islice(walk(procedure), 1025)
         if len(found) > 1024 and found[-1025].procedure is procedure:
             raise limit("paths", procedure.name.place, 1025)
     for it in found:
-        if it.path and it.path.count > 256:
+        if len(it.steps) > 256:
             raise limit("steps", it.procedure.name.place, 257)
     return found

@@ -3,13 +3,13 @@
 An operand is a `Name`, or None for `null`; an expression is an operand or a `Read`. A place is a line and a column."""
 import bisect, re
 from collections import namedtuple
-from typing import Callable, Optional
+from typing import Callable
 
-RESERVED = frozenset("""struct Node var next procedure returns requires ensures invariant if else while return new free
-    null emp acc lseg""".split())
-TOKEN = re.compile(r"(\w+)|&\*&|\|->|:=|==|!=|&&|\|\||[{}(),;:.!]|(\S)", re.ASCII)  # a word, a sign, or where none fits
-WORD = re.compile(r"[A-Za-z_]\w{0,63}", re.ASCII)
-END, NO_TOKEN = "", "?"  # what stands in the list of tokens after the last one, and where no token fits
+RESERVED = """struct Node var next procedure returns requires ensures invariant if else while return new free null emp
+    acc lseg""".split()
+TOKEN = re.compile(r"\w+|&\*&|\|->|:=|==|!=|&&|\|\||\S", re.ASCII)  # what is no token is none of the grammar's words
+NAME = re.compile(r"(?!(?:%s)\Z)[A-Za-z_]\w{0,63}" % "|".join(RESERVED), re.ASCII)
+END = ""  # what stands in the list of tokens after the last one
 
 
 class Refused(Exception):
@@ -45,7 +45,7 @@ class Procedure(namedtuple("Procedure", "name parameters results requires ensure
 
 
 def tokens(text: bytes) -> list:
-    """The tokens of a text, each with its place; then END, or NO_TOKEN where no token fits, which nothing takes."""
+    """The tokens of a text, each with its place, and then END."""
     text = re.sub(rb"//[^\n]*", lambda comment: b" " * len(comment[0]), text)
     odd = re.search(rb"[^A-Za-z0-9_ \t\r\n{}(),;:.=!&*|\->/]", text)
     if odd:
@@ -61,12 +61,8 @@ def tokens(text: bytes) -> list:
         depth += 1 if bracket[0] in b"({" else -1
         if depth > 64:
             raise refused_at("Deep", place(bracket.start()))
-    found = []
-    for token in TOKEN.finditer(text.decode("ascii")):
-        if token[2] or token[1] and not WORD.fullmatch(token[1]):
-            return found + [Name(NO_TOKEN, place(token.start()))]
-        found.append(Name(token[0], place(token.start())))
-    return found + [Name(END, place(len(text)))]
+    found = [(token[0], token.start()) for token in TOKEN.finditer(text.decode("ascii"))]
+    return [Name(word, place(start)) for word, start in found + [(END, len(text))]]
 
 
 class Parser:
@@ -79,8 +75,7 @@ class Parser:
         return self.at + ahead < len(self.tokens) and self.tokens[self.at + ahead].text == word
 
     def sees_name(self) -> bool:
-        word = self.tokens[self.at].text
-        return WORD.fullmatch(word) is not None and word not in RESERVED
+        return NAME.fullmatch(self.tokens[self.at].text) is not None
 
     def take(self, *words: str) -> Name:
         token = self.tokens[self.at]
@@ -89,10 +84,6 @@ class Parser:
         self.at += 1
         return token
 
-    def take_all(self, *words: str):
-        for word in words:
-            self.take(word)
-
     def may(self, word: str) -> bool:
         """Takes the word if it stands here."""
         return self.sees(word) and bool(self.take(word))
@@ -100,6 +91,11 @@ class Parser:
     def name(self, *others: str) -> Name:
         """A name, or one of these words."""
         return self.take(*others, self.tokens[self.at].text) if self.sees_name() else self.take(*others)
+
+    def read(self, *parts) -> list:
+        """Takes the words and reads the other parts, in order; gives what the other parts are."""
+        found = [self.take(part) if isinstance(part, str) else part() for part in parts]
+        return [it for part, it in zip(parts, found) if not isinstance(part, str)]
 
     def listed(self, member: Callable, sign: str = ",") -> list:
         members = [member()]
@@ -112,47 +108,43 @@ class Parser:
         members = self.listed(member, sign)
         return members[0] if len(members) == 1 else kind(members)
 
-    def between(self, opening: str, inner: Callable, closing: str):
-        return (self.take(opening), inner(), self.take(closing))[1]
-
     def bracketed(self, member: Callable) -> list:
-        return self.between("(", lambda: [] if self.sees(")") else self.listed(member), ")")
+        return self.read("(", lambda: [] if self.sees(")") else self.listed(member), ")")[0]
 
     def program(self) -> Program:
-        self.take_all("struct", "Node", "{")
         fields, procedures = [], []
+        self.read("struct", "Node", "{")
         while self.may("var"):
-            name, _ = self.name("next"), self.take(":")
-            fields.append(Field(name, self.name("Node")))
-            self.take(";")
+            fields.append(Field(*self.read(lambda: self.name("next"), ":", lambda: self.name("Node"), ";")))
         close = self.take("}").place
         while not self.may(END):
             procedures.append(self.procedure())
         return Program(fields, close, procedures)
 
     def procedure(self) -> Procedure:
-        self.take("procedure")
-        name, parameters = self.name(), self.parameters()
+        name, parameters = self.read("procedure", self.name, self.parameters)
         results = self.parameters() if self.may("returns") else []
-        requires = self.assertion() if self.may("requires") else Emp()
+        requires = self.claimed("requires")
         ensures = self.listed(self.assertion, "||") if self.may("ensures") else [Emp()]
-        variables, body, close = [], None, self.take(";", "{")
-        if close.text == "{":
-            while self.sees("var"):
-                variables += self.declaration()
-            body = self.statements()
-        place = body.close if body else close.place
-        return Procedure(name, parameters, results, requires, ensures, variables, body, place)
+        local, close = [], self.take(";", "{")
+        while close.text == "{" and self.sees("var"):
+            local += self.declaration()
+        body = self.statements() if close.text == "{" else None
+        close = body.close if body else close.place
+        return Procedure(name, parameters, results, requires, ensures, local, body, close)
 
     def parameters(self) -> list:
-        return self.bracketed(lambda: (self.name(), self.take_all(":", "Node"))[0])
+        return self.bracketed(lambda: self.read(self.name, ":", "Node")[0])
+
+    def claimed(self, word: str):
+        """The assertion after this word, where it stands here."""
+        return self.assertion() if self.may(word) else Emp()
 
     def declaration(self) -> list:
-        return (self.take("var"), self.listed(self.name), self.take_all(":", "Node", ";"))[1]
+        return self.read("var", lambda: self.listed(self.name), ":", "Node", ";")[0]
 
     def block(self) -> Block:
-        self.take("{")
-        return self.statements()
+        return self.read("{", self.statements)[0]
 
     def statements(self) -> Block:
         found = []
@@ -162,12 +154,12 @@ class Parser:
 
     def statement(self):
         if self.may("if"):
-            test, taken = self.between("(", self.test, ")"), self.block()
+            test, taken = self.read("(", self.test, ")", self.block)
             return If(test, taken, self.block() if self.may("else") else Block([], taken.close))
         if self.sees("while"):
-            place, test = self.take("while").place, self.between("(", self.test, ")")
-            return While(place, test, self.assertion() if self.may("invariant") else Emp(), self.block())
-        return (self.plain_statement(), self.take(";"))[0]
+            place = self.take("while").place
+            return While(place, *self.read("(", self.test, ")", lambda: self.claimed("invariant"), self.block))
+        return self.read(self.plain_statement, ";")[0]
 
     def plain_statement(self):
         if self.may("free"):
@@ -177,23 +169,18 @@ class Parser:
             return Return(place, [] if self.sees(";") else self.listed(self.expression))
         first = self.name()
         if self.sees("("):
-            return self.call([], first)
+            return Call([], first, self.bracketed(self.expression))
         if self.may("."):
-            self.take_all("next", ":=")
-            return Write(first, self.expression())
+            return Write(first, *self.read("next", ":=", self.expression))
         targets = [first] + (self.listed(self.name) if self.may(",") else [])
         self.take(":=")
         if len(targets) == 1 and self.may("new"):
-            self.take("Node")
-            return New(first)
+            return New(first, *self.read("Node"))
         if len(targets) > 1 or self.sees_name() and self.sees("(", 1):
-            return self.call(targets, self.name())
+            return Call(targets, self.name(), self.bracketed(self.expression))
         return Set(first, self.expression())
 
-    def call(self, targets: list, callee: Name) -> Call:
-        return Call(targets, callee, self.bracketed(self.expression))
-
-    def operand(self) -> Optional[Name]:
+    def operand(self) -> Name | None:
         token = self.name("null")
         return None if token.text == "null" else token
 
@@ -201,48 +188,42 @@ class Parser:
         operand = self.operand()
         return Read((operand, self.take("next"))[0]) if operand and self.may(".") else operand
 
-    def comparison(self, side: Callable) -> Compare:
-        return Compare(side(), self.take("==", "!=").text == "==", side())
+    def compare(self, left, side: Callable) -> Compare:
+        return Compare(left, self.take("==", "!=").text == "==", side())
 
-    def test(self, side: Optional[Callable] = None):
+    def test(self, side: Callable | None = None):
         """A test of expressions, or of what `side` reads."""
         literal = lambda: self.literal(side or self.expression)
         return self.joined(Or, lambda: self.joined(And, literal, "&&"), "||")
 
     def literal(self, side: Callable):
-        inner = lambda: self.between("(", lambda: self.test(side), ")")
-        if self.may("!"):
-            return Not(inner())
-        return inner() if self.sees("(") else self.comparison(side)
+        if self.sees("!"):
+            return Not(*self.read("!", "(", lambda: self.test(side), ")"))
+        return self.read("(", lambda: self.test(side), ")")[0] if self.sees("(") else self.compare(side(), side)
 
     def assertion(self):
         return self.joined(Star, self.item, "&*&")
 
     def item(self):
         if self.sees("("):
-            return self.between("(", self.assertion, ")")
+            return self.read("(", self.assertion, ")")[0]
         if self.may("emp"):
             return Emp()
         if self.may("acc"):
-            return Acc(self.between("(", self.name, ")"))
+            return Acc(*self.read("(", self.name, ")"))
         if self.may("lseg"):
-            return Lseg(*self.between("(", lambda: (self.operand(), self.take(",") and self.operand()), ")"))
+            return Lseg(*self.read("(", self.operand, ",", self.operand, ")"))
         if self.may("if"):
-            test, yes = self.between("(", lambda: self.test(self.operand), ")"), self.between("{", self.assertion, "}")
-            self.take("else")
-            return Cases(test, yes, self.between("{", self.assertion, "}"))
+            part = "{", self.assertion, "}"
+            return Cases(*self.read("(", lambda: self.test(self.operand), ")", *part, "else", *part))
         left = self.operand()
-        if left is not None and self.may("."):
-            self.take_all("next", "|->")
-            return PointsTo(left, self.operand())
-        return Compare(left, self.take("==", "!=").text == "==", self.operand())
+        if left and self.may("."):
+            return PointsTo(left, *self.read("next", "|->", self.operand))
+        return self.compare(left, self.operand)
 
     def question(self) -> Question:
-        variables = self.declaration() if self.sees("var") else []
-        place = self.take("requires").place
-        left, _, right = self.claim(), self.take("ensures"), self.claim()
-        self.take(END)
-        return Question(variables, place, left, right)
+        variables, place = self.declaration() if self.sees("var") else [], self.tokens[self.at].place
+        return Question(variables, place, *self.read("requires", self.claim, "ensures", self.claim, END))
 
     def claim(self):
         return self.joined(Or, lambda: self.joined(And, self.negation, "&&"), "||")
@@ -251,4 +232,4 @@ class Parser:
         return Not(self.primary()) if self.may("!") else self.primary()
 
     def primary(self):
-        return self.between("(", self.claim, ")") if self.sees("(") else Leaf(self.between("{", self.assertion, "}"))
+        return self.read("(", self.claim, ")")[0] if self.sees("(") else Leaf(*self.read("{", self.assertion, "}"))

@@ -34,49 +34,43 @@ class Terms:
             self.next[version, of] = self.value()
         return self.next[version, of]
 
-    def use(self, it, version: int) -> int:
+    def use(self, it, version: int, binding: dict) -> int:
         """The term of an expression."""
         if isinstance(it, Read):
-            return self.successor(version, self.use(it.at, version))
-        if it is not None and it.text not in self.binding:
-            self.binding[it.text] = self.value()
-        return self.binding[it.text] if it else 0
+            return self.successor(version, self.use(it.at, version, binding))
+        if it is not None and it.text not in binding:
+            binding[it.text] = self.value()
+        return binding[it.text] if it else 0
 
-    def over_terms(self, it, version: int):
-        """An assertion, a test, a claim's leaf, a step or a list of these, walked from left to right."""
+    def over_terms(self, it, version: int, binding: dict | None = None):
+        """Any form over terms, walked from left to right, under the binding of a callee or the procedure's own."""
+        binding = self.binding if binding is None else binding
         if it is None or isinstance(it, (Name, Read)):
-            return self.use(it, version)
+            return self.use(it, version, binding)
         if isinstance(it, bool):
             return it
         if isinstance(it, list):
-            return [self.over_terms(member, version) for member in it]
+            return [self.over_terms(member, version, binding) for member in it]
         if isinstance(it, (Acc, PointsTo, Access)):
-            at = self.use(it.at, version)
+            at = self.use(it.at, version, binding)
             self.successor(version, at)
-            return type(it)(at, *[self.use(to, version) for to in it[1:]])
-        return type(it)(*[self.over_terms(member, version) for member in it])
-
-    def under(self, binding: dict, it, version: int):
-        """The same under another binding, that of a callee."""
-        own, self.binding = self.binding, binding
-        found, self.binding = self.over_terms(it, version), own
-        return found
+            return type(it)(at, *[self.use(to, version, binding) for to in it[1:]])
+        return type(it)(*[self.over_terms(member, version, binding) for member in it])
 
     def assign(self, names: list, values: list):
-        self.binding.update((name.text, value) for name, value in zip(names, values))
+        self.binding.update(zip([name.text for name in names], values))
 
     def given_up(self, callee: Procedure, arguments: list, version: int) -> tuple:
         """The binding of a callee's parameters, and its `requires` under it."""
-        arguments = [self.use(argument, version) for argument in arguments]
-        binding = {name.text: term for name, term in zip(callee.parameters, arguments)}
-        return binding, self.under(binding, callee.requires, version)
+        binding = {name.text: self.over_terms(it, version) for name, it in zip(callee.parameters, arguments)}
+        return binding, self.over_terms(callee.requires, version, binding)
 
 
 def symbolic(callees: dict, condition: Condition) -> Symbolic:
     procedure = condition.procedure
     terms, version, steps = Terms(procedure.name.place), 0, []
     start = terms.over_terms(condition.start.invariant if condition.start else procedure.requires, 0)
-    for it in condition.steps():
+    for it in condition.steps:
         step = step_over_terms(terms, callees, procedure, it, version)
         steps.append((version, step))
         version += isinstance(step, (Write, Fresh, Free, Part))
@@ -88,9 +82,9 @@ def step_over_terms(terms: Terms, callees: dict, procedure: Procedure, it, versi
     """A step over terms, None for one that changes the binding alone."""
     match it:
         case Set(target, value):
-            terms.assign([target], [terms.use(value, version)])
+            terms.assign([target], [terms.over_terms(value, version)])
         case Return(_, values):
-            terms.assign(procedure.results, [terms.use(value, version) for value in values])
+            terms.assign(procedure.results, terms.over_terms(values, version))
         case New(target):
             step = Fresh(terms.value(), terms.value())
             terms.assign([target], [step.location])
@@ -100,7 +94,7 @@ def step_over_terms(terms: Terms, callees: dict, procedure: Procedure, it, versi
             binding, before = terms.given_up(callee, arguments, version)
             results = [terms.value() for _ in targets]
             binding.update((name.text, value) for name, value in zip(callee.results, results))
-            after = terms.under(binding, callee.ensures, version + 1)
+            after = terms.over_terms(callee.ensures, version + 1, binding)
             terms.assign(targets, results)
             return Part(before, after)
         case While(_, _, invariant, body):
@@ -116,7 +110,7 @@ def step_over_terms(terms: Terms, callees: dict, procedure: Procedure, it, versi
 def check_over_terms(terms: Terms, callees: dict, condition: Condition, version: int) -> tuple:
     kind, _, of = condition.check
     if kind == "access":
-        return "access", terms.use(of, version)
+        return "access", terms.over_terms(of, version)
     if kind == "entry":
         return "part", terms.given_up(callees[of.callee.text], of.arguments, version)[1]
     if kind == "return":
