@@ -3,6 +3,7 @@ use Rattle.std.specs.Prelude.{◌≡◌, ℕ, zero, suc, ◌+◌, ◌-◌, min, 
 use Rattle.std.specs.Fmt.{decimal}
 use Rattle.gh_ast.specs.Plain.{Program}
 use Rattle.gh_draw.specs.Descriptions.{description}
+use Rattle.gh_draw.specs.Drawings.{line}
 use Rattle.gh_lens.specs.Judgements.{IsFinding}
 use Rattle.gh_lens.specs.Overviews.{finding_text}
 use Rattle.gh_lens.specs.declared.judged.Finding.{Finding}
@@ -14,8 +15,7 @@ use Rattle.gh_page.specs.declared.reply.Reply.{Reply}
 -- `valid: condition N, DESCRIPTION` where the condition is valid, `refuted: ..` where it has a counterexample: the line of
 -- `lens all`
 abbrev pub condition_line : Finding → ℕ → List ℕ → List ℕ
-condition_line f n description =
-    finding_text f ++ (codes "condition " ++ decimal n ++ codes ", ") ++ description ++ codes "\n"
+condition_line f n description = line (finding_text f ++ codes "condition " ++ decimal n ++ codes ", " ++ description)
 
 -- the line of the condition of a number
 pub record IsLine (P : Program) (n : ℕ) (text : List ℕ) : Type 0 where
@@ -27,9 +27,9 @@ pub record IsLine (P : Program) (n : ℕ) (text : List ℕ) : Type 0 where
 
 -- the line of the condition of a number is added
 pub record AddsLine (P : Program) (n : ℕ) (old new : List ℕ) : Type 0 where
-  pub line : List ℕ
-  pub is : IsLine P n line
-  pub added : new ≡ old ++ line
+  pub one : List ℕ
+  pub is : IsLine P n one
+  pub added : new ≡ old ++ one
 
 -- the lines of k conditions after the first `skip`
 abbrev pub AreLines : Program → ℕ → ℕ → List ℕ → Type 0

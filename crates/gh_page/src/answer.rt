@@ -46,9 +46,10 @@ fn words_of(alloc: Global, mode: u32) -> Result<Words, AllocError>
     let mut words = Words::new(alloc);
     words.push(alloc, word_of(mode))?;
     words.push(alloc, "program")?;
-    if is_on_two(mode) {
-        words.push(alloc, "second")?;
+    if !is_on_two(mode) {
+        return Ok(words);
     }
+    words.push(alloc, "second")?;
     Ok(words)
 }
 

@@ -1,13 +1,13 @@
 // What is found of some conditions of a program.
 
-ghost use Rattle.std.specs.Prelude.{◌≡◌, ◌++◌, ◌+◌, ◌≤◌, length, IfOk, OnOk};
+ghost use Rattle.std.specs.Prelude.{◌≡◌, ◌++◌, ◌+◌, ◌-◌, ◌≤◌, min, length, IfOk, OnOk};
 ghost use Rattle.gh_ast.specs.Plain.{program_of};
 ghost use Rattle.gh_lens.specs.Judgements.{IsFoundFor};
 ghost use Rattle.gh_lens.specs.Overviews as shown;
 ghost use Rattle.gh_path.specs.Admitted.{IsAdmitted};
 ghost use Rattle.gh_path.specs.Conditions as plain;
 ghost use Rattle.gh_path.specs.Kept.{IsOne};
-ghost use Rattle.gh_page.specs.Listings.{IsListing, IsListingOf, AddsLine};
+ghost use Rattle.gh_page.specs.Listings.{IsListing, IsListingOf, AddsLine, condition_line};
 
 use crate::front::refused;
 use crate::reply::Reply;
@@ -40,13 +40,31 @@ fn find_out(
     }
 }
 
-fn finding_text(finding: Finding) -> &'static [u8]
-    ensures { result.now ≡ shown.finding_text finding }
+fn push_finding(text: &mut Text, finding: Finding) -> Result<(), AllocError>
+    ensures { OnOk result (text.new ≡ text.old ++ shown.finding_text finding) }
 {
     match finding {
-        Finding::Valid => b"valid: ",
-        Finding::Refuted => b"refuted: ",
+        Finding::Valid => text.push(b"valid: "),
+        Finding::Refuted => text.push(b"refuted: "),
     }
+}
+
+// Adds a line with what is found of a condition.
+fn push_found(
+    alloc: Global,
+    text: &mut Text,
+    finding: Finding,
+    number: u32,
+    description: &Text,
+) -> Result<(), AllocError>
+    ensures { OnOk result (text.new ≡ text.old ++ condition_line finding number description.now) }
+{
+    push_finding(text, finding)?;
+    let written = format!(in alloc; "condition {number}, ")?;
+    text.push(written.as_bytes())?;
+    text.push(description.bytes())?;
+    text.push(b"\n")?;
+    Ok(())
 }
 
 // Adds the line of the condition of a number, of which there are enough.
@@ -69,12 +87,15 @@ fn push_line(
     };
     let finding = find_out(alloc, typed, &condition, known)?;
     let description = describe(alloc, typed, &condition)?;
-    lines.push(finding_text(finding))?;
-    let written = format!(in alloc; "condition {number}, ")?;
-    lines.push(written.as_bytes())?;
-    lines.push(description.bytes())?;
-    lines.push(b"\n")?;
+    push_found(alloc, lines, finding, number, &description)?;
     Ok(())
+}
+
+// How many conditions are listed.
+fn listed_count(count: u32, skip: u32, most: u32) -> u32
+    ensures { result ≡ min (count - skip) most }
+{
+    count.saturating_sub(skip).min(most)
 }
 
 // The lines of the conditions after the first `skip`, of `most` at most.
@@ -91,7 +112,7 @@ fn lines_of(
 {
     let mut lines = Text::new(alloc);
     let mut known = Known::new();
-    let listed = conditions.count().saturating_sub(skip).min(most);
+    let listed = listed_count(conditions.count(), skip, most);
     for place in 0..listed {
         let number = skip + place + 1;
         push_line(alloc, &mut lines, typed, conditions, number, &mut known)?;

@@ -47,7 +47,7 @@ impl Reply {
         ensures length { result.length ≡ length self.now.text }
     {
         Ended {
-            status: u32::from(status.number()),
+            status: status.number() as u32,
             count: self.count,
             length: self.text.bytes().len(),
         }
@@ -73,7 +73,7 @@ pub(crate) fn hand_out(reply: &Result<Reply, AllocError>, into: &mut [u8]) -> En
     match reply {
         Ok(reply) => hand_on(reply, into),
         Err(_) => Ended {
-            status: u32::from(Status::OutOfMemory.number()),
+            status: Status::OutOfMemory.number() as u32,
             count: 0,
             length: 0,
         },

@@ -1,6 +1,6 @@
 // The texts that a call is given, in place of files.
 
-ghost use Rattle.std.specs.Prelude.{◌≡◌, [], Some, None, false};
+ghost use Rattle.std.specs.Prelude.{◌≡◌, [], Some, None, false, IfSome, IfNone};
 ghost use Rattle.gh_page.specs.Modes.{table_over};
 
 use gh_base::outside::{Failed, Inputs};
@@ -28,6 +28,20 @@ impl<'a> Texts<'a> {
             is_begun: false,
         }
     }
+
+    // The text of a name.
+    fn text_of(&self, name: &str) -> Option<&'a [u8]>
+        ensures some { IfSome result (λ s. table_over self.now.first.now self.now.second.now name.now ≡ Some s.now) }
+        ensures none { IfNone result (table_over self.now.first.now self.now.second.now name.now ≡ None) }
+    {
+        if name == "program" {
+            return Some(self.first);
+        }
+        if name == "second" {
+            return Some(self.second);
+        }
+        None
+    }
 }
 
 impl Inputs for Texts<'_> {
@@ -44,16 +58,18 @@ impl Inputs for Texts<'_> {
     ghost names = { λ _. None };
 
     fn begin(&mut self, name: &str) -> Result<bool, Failed> {
-        self.left = &[];
-        self.is_begun = true;
-        if name == "program" {
-            self.left = self.first;
-        } else if name == "second" {
-            self.left = self.second;
-        } else {
-            self.is_begun = false;
+        match self.text_of(name) {
+            Some(text) => {
+                self.is_begun = true;
+                self.left = text;
+                Ok(true)
+            }
+            None => {
+                self.left = &[];
+                self.is_begun = false;
+                Ok(false)
+            }
         }
-        Ok(self.is_begun)
     }
 
     fn read(&mut self, into: &mut [u8]) -> Result<usize, Failed> {
