@@ -46,11 +46,12 @@ over mode text second w r before after is =
       good = is.good;
     }
 
-pub answered : (mode : ℕ) (text second : List ℕ) (words : List (List ℕ)) (o : Outside) (r : Reply)
+pub answered : (mode : ℕ) (text second : List ℕ) (words : List (List ℕ)) (o : Outside) (s : Status) (r : Reply)
     → words ≡ words_of mode → table_of o ≡ Some (table_over text second) → o.writing.before.written ≡ Some []
-    → o.writing.after.written ≡ Some r.text → is_answer r.status ≡ true → IsAnswered words o r.status
+    → o.writing.after.written ≡ Some r.text → r.status ≡ s → is_answer s ≡ true → IsAnswered words o s
     → IsAnswerTo mode text second r
-answered mode text second words o r are told before after is done =
+answered mode text second words o s r are told before after status done is =
     over mode text second o.writing r before after
-    (subst (λ t. IsWrittenWhole t (words_of mode) o.writing r.status) told
-    (subst (λ ws. IsWrittenWhole (table_of o) ws o.writing r.status) are (whole words o r.status is done)))
+    (subst (λ x. IsWrittenWhole (Some (table_over text second)) (words_of mode) o.writing x) (sym status)
+    (subst (λ t. IsWrittenWhole t (words_of mode) o.writing s) told
+    (subst (λ ws. IsWrittenWhole (table_of o) ws o.writing s) are (whole words o s done is))))

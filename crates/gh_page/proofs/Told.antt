@@ -14,7 +14,7 @@ use Rattle.gh_scene.specs.Picturing.{IsPictured, IsDrawn}
 use Rattle.gh_scene.specs.Sought.{IsSmallestOf}
 use Rattle.gh_scene.specs.declared.pictured.Pictured.{Pictured}
 use Rattle.gh_scene.specs.declared.pictured.Pictured.TheVariants as picture
-use Rattle.gh_trace.proofs.Failures.{refutes}
+use Rattle.gh_trace.proofs.Failures.{failures_are_one}
 use Rattle.gh_trace.specs.Kept.{drawn_of}
 use Rattle.gh_trace.specs.Replay.{FirstFailure}
 use Rattle.gh_page.specs.Telling.{IsToldAndDrawn}
@@ -30,7 +30,7 @@ same P n d c s at = one_value (slice_get (conditions P) (d.condition - 1)) c s.c
 fails_not : (P : Program) (n k : ℕ) (d : Drawing) (c : Condition) → IsSmallestOf P n d → IsConditionAt P d.condition c
     → FirstFailure P c (drawn_of d.trace) k → ⊥
 fails_not P n k d c s at fails =
-    refutes P s.condition (drawn_of d.trace) s.refutes k
+    failures_are_one.none P s.condition (drawn_of d.trace) s.refutes k
     (subst (λ x. FirstFailure P x (drawn_of d.trace) k) (same P n d c s at) fails)
 
 outside_not : (P : Program) (m : ℕ) (c : Condition) → IsConditionAt P m c → IsNoNumber P m → ⊥

@@ -22,5 +22,5 @@ returns c =
     let found : IsNumbered P c.args.number (Some r) =
     subst (λ Q. IsNumbered Q c.args.number (Some r)) c.requires.same
     (subst (λ o. IsNumbered (program_of c.args.conditions.now) c.args.number o) c.in-Some.is c.in_ok-condition.ensures) in
-    line_added P c.args.number r c.in_ok-finding.finding c.args.lines.now c.push_found.new.lines
+    line_added P c.args.number r c.in_ok-finding.finding c.args.lines.now c.push_found.new.text
     c.in_ok-description.description found c.in_ok-finding.ensures c.in_ok-description.ensures c.in_ok-push_found.ensures
