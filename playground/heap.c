@@ -1,6 +1,5 @@
-// What the module needs of a C library: the calls by which compiled code asks for memory, over the pages of wasm64.
-// Free blocks that lie beside each other are one. Who includes it gives __heap_base, page_count and more_pages. Not proved;
-// heap_test.c tries it.
+// What the module needs of a C library: the calls by which compiled code asks for memory. Free blocks that lie beside each
+// other are one. Who includes it gives __heap_base, page_count, more_pages. Not proved; heap_test.c tries it.
 typedef unsigned long long u64;
 // `size` is that of the whole block, odd where it is taken, and `before` that of the block before it. Free blocks of a
 // class, between two powers of two, are a list. `last` is an empty taken block behind all others.
@@ -10,7 +9,7 @@ enum { HEAD = 16, LEAST = 32, TRIES = 16 };
 static Block *lists[64], *last;
 static int class_of(u64 size) { return 63 - __builtin_clzll(size); }
 static Block *behind(Block *b, u64 size) { return (Block *)((char *)b + size); }
-static u64 needed(u64 n) { return n + HEAD < LEAST ? LEAST : (n + HEAD + 15) & ~15ULL; }
+static u64 needed(u64 n) { return n < HEAD ? LEAST : (n + HEAD + 15) & ~15ULL; }
 static void leave(Block *b) {
     *(b->previous ? &b->previous->next : &lists[class_of(b->size)]) = b->next;
     if (b->next) b->next->previous = b->previous;
@@ -27,7 +26,6 @@ static void give(Block *b, u64 size) {
 static _Bool grow(u64 size) {
     u64 begin = last ? (u64)last : ((u64)&__heap_base + 15) & ~15ULL, pages = (size + 2 * HEAD + 65535) >> 16;
     if (!more_pages(pages + (page_count() >> 4)) && !more_pages(pages)) return 0;
-    if (!last) ((Block *)begin)->before = 0;
     last = (Block *)((page_count() << 16) - HEAD), last->size = 1;
     give((Block *)begin, (u64)last - begin);
     return 1;
@@ -48,16 +46,14 @@ Tried rattle_alloc(u64 n, u64 align) {
     if (align > 16 || n > 1ULL << 40) return (Tried){ 0, 0 };
     Block *b = find(needed(n));
     if (!b && !(grow(needed(n)) && (b = find(needed(n))))) return (Tried){ 0, 0 };
-    leave(b);
-    return cut(b, b->size, needed(n));
+    return leave(b), cut(b, b->size, needed(n));
 }
 void rattle_dealloc(void *p) { Block *b = (Block *)((char *)p - HEAD); give(b, b->size - 1); }
 Tried rattle_realloc(void *p, u64 kept, u64 n, u64 align) {
     Block *b = (Block *)((char *)p - HEAD), *next = behind(b, b->size - 1);
     u64 have = b->size - 1, joined = have + (next->size & 1 ? 0 : next->size);
-    if (n > 1ULL << 40) return (Tried){ 0, 0 };
-    if (have < needed(n) && joined >= needed(n)) { leave(next); have = joined; }
-    if (have >= needed(n)) return cut(b, have, needed(n));
+    if (n <= joined && have < needed(n) && joined >= needed(n)) { leave(next); have = joined; }
+    if (n <= have && have >= needed(n)) return cut(b, have, needed(n));
     Tried made = rattle_alloc(n, align);
     if (made.ok) { __builtin_memcpy(made.p, p, kept < n ? kept : n); rattle_dealloc(p); }
     return made;

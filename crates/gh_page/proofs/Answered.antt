@@ -1,9 +1,10 @@
 -- Runs that end with an answer.
-use Rattle.std.specs.Prelude.{◌≡◌, ℕ, List, [], ◌∷◌, ◌++◌, true, Some, slice_get, codes}
+use Rattle.std.specs.Prelude.{◌≡◌, ℕ, List, [], ◌∷◌, ◌++◌, true, Option, Some, None, slice_get, codes}
 use Rattle.std.proofs.Common.{refl, sym, ap, subst}
 use Rattle.std.specs.Io.KnownBytes.{Appends}
 use Rattle.gh_top.specs.Headline.{IsAnswered, IsWrittenWhole, Answer}
-use Rattle.gh_top.specs.Seen.{Outside, Writing, table_of}
+use Rattle.gh_base.specs.Outside.{Table}
+use Rattle.gh_top.specs.Seen.{Outside, InputsTold, Writing, table_of}
 use Rattle.gh_top.specs.declared.status.Status.{Status}
 use Rattle.gh_top.specs.declared.status.Status.TheVariants.{Verified, Listed, Ran, Refuted, Usage, ReadFault}
 use Rattle.gh_top.specs.declared.status.Status.TheVariants.{TextRefused, LogRefused, WriteFault, OutOfMemory, Stopped}
@@ -46,12 +47,18 @@ over mode text second w r before after is =
       good = is.good;
     }
 
-pub answered : (mode : ℕ) (text second : List ℕ) (words : List (List ℕ)) (o : Outside) (s : Status) (r : Reply)
-    → words ≡ words_of mode → table_of o ≡ Some (table_over text second) → o.writing.before.written ≡ Some []
-    → o.writing.after.written ≡ Some r.text → r.status ≡ s → is_answer s ≡ true → IsAnswered words o s
-    → IsAnswerTo mode text second r
-answered mode text second words o s r are told before after status done is =
-    over mode text second o.writing r before after
-    (subst (λ x. IsWrittenWhole (Some (table_over text second)) (words_of mode) o.writing x) (sym status)
-    (subst (λ t. IsWrittenWhole t (words_of mode) o.writing s) told
-    (subst (λ ws. IsWrittenWhole (table_of o) ws o.writing s) are (whole words o s done is))))
+-- what is told of the outside where only the table of the inputs counts
+abbrev outside : Option Table → Writing → Outside
+outside table w =
+    let told : InputsTold = record { table = table; names = None; calls = None; faults = 0 } in
+    record { reading = record { before = told; after = told }; writing = w }
+
+pub answered : (mode : ℕ) (text second : List ℕ) (words : List (List ℕ)) (table : Option Table) (w : Writing)
+    (s : Status) (r : Reply) → words ≡ words_of mode → table ≡ Some (table_over text second)
+    → w.before.written ≡ Some [] → w.after.written ≡ Some r.text → r.status ≡ s → is_answer s ≡ true
+    → IsAnswered words (outside table w) s → IsAnswerTo mode text second r
+answered mode text second words table w s r are told before after status done is =
+    over mode text second w r before after
+    (subst (λ x. IsWrittenWhole (Some (table_over text second)) (words_of mode) w x) (sym status)
+    (subst (λ t. IsWrittenWhole t (words_of mode) w s) told
+    (subst (λ ws. IsWrittenWhole table ws w s) are (whole words (outside table w) s done is))))

@@ -9,7 +9,7 @@ returns c =
     let t = c.new-inputs.result.first.now in
     let u = c.new-inputs.result.second.now in
     let done : is_answer c.run-status.result ≡ true = sym c.is_answer.ensures ∙ c.if-not-is_answer.false in
-    answered c.args.mode c.args.text.now c.args.second.now c.in_ok-words.words _ c.run-status.result c.about.result
+    answered c.args.mode c.args.text.now c.args.second.now c.in_ok-words.words _ _ c.run-status.result c.about.result
     c.in_ok-words.ensures
     (ap (λ x. Some (table_over x u)) c.new-inputs.ensures.first
     ∙ ap (λ x. Some (table_over c.args.text.now x)) c.new-inputs.ensures.second)
