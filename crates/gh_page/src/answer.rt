@@ -14,6 +14,7 @@ use gh_top::words::Words;
 use std::alloc::{AllocError, Global};
 
 const RECHECK: u32 = 5;
+
 const REPLAY: u32 = 6;
 
 // The word of a mode; it is empty where the number is no mode.
@@ -36,7 +37,11 @@ fn word_of(mode: u32) -> &'static str
 fn is_on_two(mode: u32) -> bool
     ensures { result ≡ modes.is_on_two mode }
 {
-    if mode == RECHECK { true } else { mode == REPLAY }
+    if mode == RECHECK {
+        true
+    } else {
+        mode == REPLAY
+    }
 }
 
 // The words of a mode and the names of its texts.

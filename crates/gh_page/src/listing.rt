@@ -122,12 +122,7 @@ fn lines_of(
 
 /// What is found of the conditions of the program of a text after the first `skip`, of `most` at most; or why it is
 /// refused.
-pub(crate) fn listing(
-    alloc: Global,
-    text: &[u8],
-    skip: u32,
-    most: u32,
-) -> Result<Reply, AllocError>
+pub(crate) fn listing(alloc: Global, text: &[u8], skip: u32, most: u32) -> Result<Reply, AllocError>
     ensures { IfOk result (IsListingOf text.now skip most) }
 {
     let typed = match read_program(alloc, text) {
