@@ -56,6 +56,7 @@ export class Counterexample {
     svg.setAttribute("role", "img");
     svg.setAttribute("aria-label", "The states of the counterexample, one below the other; the story tells them in words");
     svg.style.maxWidth = "100%";
+    svg.style.height = "auto";
     this.#size = { width: svg.width.baseVal.value, height: svg.height.baseVal.value };
     const rows = [...svg.querySelectorAll(".row")];
     const tops = rows.map((row) => row.transform.baseVal.consolidate().matrix.f);
