@@ -7,7 +7,7 @@ DEB_VERSION := $(or $(VERSION),0.1)
 ROOT := $(DESTDIR)$(PREFIX)
 JOBS ?= $(shell nproc)
 
-.PHONY: help quick proved programs manual install test gate deb clean
+.PHONY: help quick proved programs manual install test gate deb playground lib clean
 
 help:
 	@echo 'make quick                 builds build/grass and build/lens without a proof, in minutes (build/UNPROVED says so)'
@@ -16,6 +16,8 @@ help:
 	@echo 'make test                  tests pages, examples and damaged inputs, without proofs, in ten minutes'
 	@echo 'make gate                  runs the gate, .ci/run: all proofs and all tests'
 	@echo 'make deb                   makes a Debian package of the proved programs, in build/'
+	@echo 'make playground            makes the verifier as one page, build/playground.html, from the proved library'
+	@echo 'make lib                   makes the proved library for C and Python, in build/lib'
 	@echo 'make clean                 removes build/ and the answers in examples/out/'
 
 quick:
@@ -59,6 +61,14 @@ gate:
 deb: proved
 	$(MAKE) manual
 	tools/make-deb $(BUILD) $(DEB_VERSION)
+
+playground:
+	cd crates/gh_page && rt lib
+	tools/try-heap
+	tools/build-playground $(BUILD)/playground.html
+
+lib:
+	tools/build-lib $(BUILD)/lib
 
 clean:
 	rm -rf $(BUILD)

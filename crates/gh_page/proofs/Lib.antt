@@ -1,0 +1,3 @@
+mod Answered
+mod Lines
+mod Told
