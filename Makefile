@@ -10,7 +10,7 @@ JOBS ?= $(shell nproc)
 .PHONY: help quick proved programs manual install test gate deb playground lib clean
 
 help:
-	@echo 'make quick                 builds build/grass and build/lens without a proof, in minutes (build/UNPROVED says so)'
+	@echo 'make quick                 builds build/grass, build/lens without a proof, in minutes (build/UNPROVED says so)'
 	@echo 'make proved                builds the same with all proofs: more than an hour the first time'
 	@echo 'make install PREFIX=/usr   installs programs, manual pages, bash completion, editor files (DESTDIR works, too)'
 	@echo 'make test                  tests pages, examples and damaged inputs, without proofs, in ten minutes'

@@ -4,11 +4,11 @@
  *     struct grass_ended ended;
  *     grass_answer(GRASS_CHECK, text, length, 0, 0, reply, sizeof reply, &ended);
  *
- * A text is bytes and their count; it is read, and never kept. A reply goes into the caller's bytes, and nobody else owns
- * or frees anything. All lengths are in bytes. `ended.length` is the length of the reply; where that is more than the room
- * (status GRASS_NO_ROOM), nothing is written, and the same call with room for so many bytes answers. At want of memory the
- * status is GRASS_OUT_OF_MEMORY, and the next call begins afresh. Calls share nothing, so threads may call at the same
- * time, each with a reply and an `ended` of its own. No call reads or writes a file.
+ * A text is bytes and their count; it is read, and never kept. A reply goes into the caller's bytes, and nobody else
+ * owns or frees anything. All lengths are in bytes. `ended.length` is the length of the reply; if that is more than the
+ * room (status GRASS_NO_ROOM), nothing is written, and the same call with room for so many bytes answers. If memory
+ * runs out, the status is GRASS_OUT_OF_MEMORY, and the next call begins afresh. Calls share nothing, so threads may
+ * call at the same time, each with a reply and an `ended` of its own. No call reads or writes a file.
  */
 #ifndef GRASS_H
 #define GRASS_H

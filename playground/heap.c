@@ -1,5 +1,5 @@
-// What the module needs of a C library: the calls by which compiled code asks for memory. Free blocks that lie beside each
-// other are one. Who includes it gives __heap_base, page_count, more_pages. Not proved; heap_test.c tries it.
+// What the module needs of a C library: the calls by which compiled code asks for memory. Free blocks that lie beside
+// each other are one. Who includes it gives __heap_base, page_count, more_pages. Not proved; heap_test.c tries it.
 typedef unsigned long long u64;
 // `size` is that of the whole block, odd where it is taken, and `before` that of the block before it. Free blocks of a
 // class, between two powers of two, are a list. `last` is an empty taken block behind all others.

@@ -1,5 +1,5 @@
-// Tries heap.c on pages of its own: blocks at random, each full of its own mark, none over another, all aligned; after
-// all are given back one free block is left, and where memory runs out the heap says so and goes on. Prints what it did.
+// Tries heap.c on pages of its own: blocks at random, each full of its own mark, none over another, all aligned. After
+// all are given back, one free block is left; if memory runs out, the heap says so and goes on. Prints what it did.
 #define _GNU_SOURCE
 #include <stdio.h>
 #include <stdlib.h>
