@@ -25,7 +25,7 @@ quick:
 
 # `rt run` proves a program, builds it and runs it once: here `grass` on crates/grass/data/nop.txt, and `lens help`.
 proved:
-	cd crates/grass && rt run -- check nop.txt
+	cd crates/grass && rt run -- check data/nop.txt
 	cd crates/lens && rt run -- help
 	mkdir -p $(BUILD)
 	rm -f $(BUILD)/UNPROVED
